@@ -1,0 +1,4 @@
+pub mod Product
+pub mod Exact
+pub mod Truncation
+pub mod Lists

@@ -1,0 +1,1 @@
+// Mathematics that knows nothing of music. No code: definitions stand in specs/, theorems in proofs/.

@@ -1,0 +1,142 @@
+// Runs of draws of one kind, from a stream with any seed and counter, over the whole of `out`.
+ghost use mathlib.Core.Path.{_≡_};
+ghost use lib.ListN.{length};
+ghost use Rattle.probe.specs.Draws.{streamAt, flagOf, unitBitsOf, pickWordOf, chanceWordOf, coinWordOf, drawnOf, drawsOf};
+ghost use Rattle.probe.specs.declared.draws.Kind.{Kind};
+use streams::draw::chance;
+use streams::draw::coin;
+use streams::draw::pick;
+use streams::float::bits_of;
+use streams::stream::NoiseStream;
+use streams::stream::WordDraw;
+
+// What is drawn.
+pub enum Kind {
+    Word,
+    Unit,
+    Pick(u8),
+    Chance(f32),
+    Coin,
+}
+
+fn flag(b: bool) -> u64
+    ensures { λ r. ⌜ r ≡ flagOf b ⌝ }
+{
+    if b { 1 } else { 0 }
+}
+
+fn unit_bits(s: NoiseStream) -> WordDraw
+    ensures { λ r. ⌜ r ≡ unitBitsOf s ⌝ }
+{
+    let d = s.unit();
+    let bits = bits_of(d.value);
+    let next = d.stream;
+    WordDraw {
+        value: bits as u64,
+        stream: next,
+    }
+}
+
+fn pick_word(s: NoiseStream, n: u8) -> WordDraw
+    ensures { λ r. ⌜ r ≡ pickWordOf s n ⌝ }
+{
+    let d = pick(s, n);
+    let next = d.stream;
+    WordDraw {
+        value: d.value as u64,
+        stream: next,
+    }
+}
+
+fn chance_word(s: NoiseStream, p: f32) -> WordDraw
+    ensures { λ r. ⌜ r ≡ chanceWordOf s p ⌝ }
+{
+    let d = chance(s, p);
+    let bit = flag(d.value);
+    let next = d.stream;
+    WordDraw {
+        value: bit,
+        stream: next,
+    }
+}
+
+fn coin_word(s: NoiseStream) -> WordDraw
+    ensures { λ r. ⌜ r ≡ coinWordOf s ⌝ }
+{
+    let d = coin(s);
+    let bit = flag(d.value);
+    let next = d.stream;
+    WordDraw {
+        value: bit,
+        stream: next,
+    }
+}
+
+// One draw, as a number.
+fn drawn(kind: Kind, s: NoiseStream) -> WordDraw
+    ensures { λ r. ⌜ r ≡ drawnOf kind s ⌝ }
+{
+    match kind {
+        Kind::Word => s.next_u64(),
+        Kind::Unit => unit_bits(s),
+        Kind::Pick(n) => pick_word(s, n),
+        Kind::Chance(p) => chance_word(s, p),
+        Kind::Coin => coin_word(s),
+    }
+}
+
+fn fill(kind: Kind, seed: u64, counter: u64, out: &mut [u64])
+    ensures { λ r. ⌜ now (out .exit) ≡ drawsOf kind (streamAt seed counter) (length (now (out .entry))) ⌝ }
+{
+    let mut s = NoiseStream {
+        seed: seed,
+        counter: counter,
+    };
+    let mut i: usize = 0;
+    while i < out.len() {
+        let d = drawn(kind, s);
+        out[i] = d.value;
+        s = d.stream;
+        i += 1;
+    }
+}
+
+// The draws as words.
+#[no_mangle]
+pub extern "C" fn probe_words(seed: u64, counter: u64, out: &mut [u64])
+    ensures { λ r. ⌜ now (out .exit) ≡ drawsOf Kind.Word (streamAt seed counter) (length (now (out .entry))) ⌝ }
+{
+    fill(Kind::Word, seed, counter, out);
+}
+
+// The draws as units, by their bits.
+#[no_mangle]
+pub extern "C" fn probe_units(seed: u64, counter: u64, out: &mut [u64])
+    ensures { λ r. ⌜ now (out .exit) ≡ drawsOf Kind.Unit (streamAt seed counter) (length (now (out .entry))) ⌝ }
+{
+    fill(Kind::Unit, seed, counter, out);
+}
+
+// Picks of n.
+#[no_mangle]
+pub extern "C" fn probe_picks(seed: u64, counter: u64, n: u8, out: &mut [u64])
+    ensures { λ r. ⌜ now (out .exit) ≡ drawsOf (Kind.Pick n) (streamAt seed counter) (length (now (out .entry))) ⌝ }
+{
+    fill(Kind::Pick(n), seed, counter, out);
+}
+
+// Chances of p, 1 for yes.
+#[no_mangle]
+pub extern "C" fn probe_chances(seed: u64, counter: u64, p: f32, out: &mut [u64])
+    ensures { λ r. ⌜ now (out .exit) ≡ drawsOf (Kind.Chance p) (streamAt seed counter) (length (now (out .entry))) ⌝ }
+{
+    fill(Kind::Chance(p), seed, counter, out);
+}
+
+// Coins, 1 for yes.
+#[no_mangle]
+pub extern "C" fn probe_coins(seed: u64, counter: u64, out: &mut [u64])
+    ensures { λ r. ⌜ now (out .exit) ≡ drawsOf Kind.Coin (streamAt seed counter) (length (now (out .entry))) ⌝ }
+{
+    fill(Kind::Coin, seed, counter, out);
+}

@@ -1,0 +1,38 @@
+-- A pick of n is below n, and picks, chances and coins make one draw each. Assumes nothing.
+use mathlib.Core.Path.{_≡_, refl}
+use Prim.Native.Nat.{ℕ, _-_, _<_, min}
+use native.Mathlib.Omega.{arith}
+use lib.Ieee.{Float, binary32, mul, ofBits, toUnsigned}
+use Rattle.laws.specs.Floats.{f32Of}
+use Rattle.streams.specs.Stream.{after}
+use Rattle.streams.specs.Draw.{pickedOf, pickOf, chanceOf, coinOf}
+use Rattle.streams.specs.declared.stream.NoiseStream.{NoiseStream}
+use Rattle.streams.proofs.StreamLaws.{unit-advances}
+
+capped : (a n : ℕ) → 0 < n → min a (n - 1) < n
+capped a n h = omega arith
+
+pub picked-lt : (u : Float) (n : ℕ) → 0 < n → pickedOf u n < n
+unfolding pickedOf
+picked-lt u n h = capped (toUnsigned 64 (mul binary32 u (f32Of n))) n h
+
+pub picked-none : (u : Float) → pickedOf u 0 ≡ 0
+unfolding pickedOf
+picked-none u = omega arith
+
+module _ (s : NoiseStream) where
+  pub pick-lt : (n : ℕ) → 0 < n → pickOf s n .value < n
+  unfolding pickOf
+  pick-lt n h = picked-lt _ n h
+
+  pub pick-advances : (n : ℕ) → pickOf s n .stream ≡ after s 1
+  unfolding pickOf
+  pick-advances n = unit-advances s
+
+  pub chance-advances : (p : Float) → chanceOf s p .stream ≡ after s 1
+  unfolding chanceOf
+  chance-advances p = unit-advances s
+
+  pub coin-advances : coinOf s .stream ≡ after s 1
+  unfolding coinOf
+  coin-advances = chance-advances (ofBits binary32 0x3f00_0000)

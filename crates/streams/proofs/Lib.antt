@@ -1,0 +1,4 @@
+pub mod MixLaws
+pub mod StreamLaws
+pub mod DrawLaws
+pub mod Cases

@@ -1,0 +1,88 @@
+-- What every stream keeps: a draw is below 2^64, takes the counter one on and keeps the seed, and a unit is exact. Assumes nothing.
+use mathlib.Core.Path.{_≡_, refl, sym, ap, _∙_, subst}
+use mathlib.Core.Bool.{false}
+use Prim.Native.Nat.{ℕ, _+_, _*_, _/_, _%_, _^_, _<_}
+use native.Mathlib.Nat.{lt-of-lt-of-le, le-of-lt, zero-lt-suc, add-zero, mul-one, mul-assoc, mod-eq-of-lt}
+use native.Mathlib.Omega.{arith}
+use lib.Dec.{lit<, lit≤}
+use lib.Pow.{shl-lt}
+use lib.Ieee.{Float, binary32, round, ofBits}
+use lib.Ieee.Exact.{HasValue, round-exact}
+use lib.Ieee.Order.{le-of-values}
+use Rattle.laws.specs.Floats.{f32Of}
+use Rattle.laws.proofs.Exact.{whole-value, div-at, lt-of-values}
+use Rattle.streams.specs.Stream.{after, wordAt, nextU64Of, unitBy, unitAt, unitOf, IsUnit}
+use Rattle.streams.specs.declared.stream.NoiseStream.{NoiseStream}
+use Rattle.streams.proofs.MixLaws.{splitmix-draw-lt}
+
+module _ (s : NoiseStream) where
+  pub after-seed : (n : ℕ) → after s n .seed ≡ s .seed
+  unfolding after
+  after-seed n = refl
+
+  pub after-counter : (n : ℕ) → after s n .counter ≡ (s .counter + n) % 2 ^ 64
+  unfolding after
+  after-counter n = refl
+
+  pub after-none : s .counter < 2 ^ 64 → after s 0 ≡ s
+  unfolding after
+  after-none h = rw (add-zero (s .counter), mod-eq-of-lt h)
+
+  -- the counter wraps once, however the draws are counted
+  wraps : (m n : ℕ) → ((s .counter + m) % 2 ^ 64 + n) % 2 ^ 64 ≡ (s .counter + (m + n)) % 2 ^ 64
+  wraps m n = omega arith
+
+  pub after-after : (m n : ℕ) → after (after s m) n ≡ after s (m + n)
+  unfolding after
+  after-after m n = rw (wraps m n)
+
+  pub word-after : (m n : ℕ) → wordAt (after s m) n ≡ wordAt s (m + n)
+  unfolding after wordAt
+  word-after m n = rw (wraps m n)
+
+  pub word-lt : (n : ℕ) → wordAt s n < 2 ^ 64
+  unfolding wordAt
+  word-lt n = splitmix-draw-lt (s .seed) ((s .counter + n) % 2 ^ 64)
+
+  pub next-u64-word : nextU64Of s .value ≡ wordAt s 1
+  unfolding nextU64Of
+  next-u64-word = refl
+
+  pub next-u64-advances : nextU64Of s .stream ≡ after s 1
+  unfolding nextU64Of
+  next-u64-advances = refl
+
+  pub unit-first : unitOf s .value ≡ unitAt s 1
+  unfolding unitOf
+  unit-first = refl
+
+  pub unit-advances : unitOf s .stream ≡ after s 1
+  unfolding unitOf
+  unit-advances = refl
+
+two24-value : HasValue (ofBits binary32 0x4b80_0000) false (2 ^ 24) 1
+unfolding ofBits
+two24-value = (refl, refl)
+
+-- the quotient is one rounding, and k has no more digits than an f32 keeps
+unit-exact : (k : ℕ) → k < 2 ^ 24 → HasValue (unitBy k) false k (2 ^ 24)
+unfolding unitBy
+unit-exact k h =
+    let e = div-at (f32Of k) (ofBits binary32 0x4b80_0000) k 1 (2 ^ 24) 1 (zero-lt-suc 0) (zero-lt-suc 0) (whole-value k (le-of-lt h)) two24-value binary32 (lit< tt) in
+    subst (λ (x : Float). HasValue x false k (2 ^ 24)) (sym (e ∙ ap (λ (a : ℕ). round binary32 false a (2 ^ 24)) (mul-one k)))
+    (round-exact binary32 false k (2 ^ 24) k 125 (lit< tt) h (lt-of-lt-of-le (shl-lt 24 125 h) (lit≤ tt)) (ap (λ (p : ℕ). k * p) split ∙ sym (mul-assoc k (2 ^ 125) (2 ^ 24))))
+  where
+    split : 2 ^ 149 ≡ 2 ^ 125 * 2 ^ 24
+    split = refl
+
+pub unit-by : (k : ℕ) → k < 2 ^ 24 → IsUnit k (unitBy k)
+unit-by k h = record {
+  digits = h;
+  exact = unit-exact k h;
+  least = le-of-values (f32Of 0) (unitBy k) 0 1 k (2 ^ 24) (lit< tt) (lit< tt) (whole-value 0 (lit≤ tt)) (unit-exact k h) (omega arith);
+  most = lt-of-values (unitBy k) (f32Of 1) k (2 ^ 24) 1 1 (unit-exact k h) (whole-value 1 (lit≤ tt)) (omega arith);
+}
+
+pub unit-at : (s : NoiseStream) (n : ℕ) → IsUnit (wordAt s n / 2 ^ 40) (unitAt s n)
+unfolding unitAt
+unit-at s n = unit-by (wordAt s n / 2 ^ 40) (omega (arith, word-lt s n))

@@ -1,0 +1,62 @@
+// What a stage draws: one of n, or yes with a given chance.
+ghost use mathlib.Core.Path.{_≡_};
+ghost use Rattle.streams.specs.Draw.{pickedOf, pickOf, chanceOf, coinOf};
+use crate::float::truncated;
+use crate::stream::NoiseStream;
+
+pub struct PickDraw {
+    pub value: u8,
+    pub stream: NoiseStream,
+}
+
+pub struct ChanceDraw {
+    pub value: bool,
+    pub stream: NoiseStream,
+}
+
+// Which of n parts of equal width the unit u falls in: u * n rounded, truncated, at most n - 1;
+// 0 where n is 0.
+pub fn picked(u: f32, n: u8) -> u8
+    ensures { λ r. ⌜ r ≡ pickedOf u n ⌝ }
+{
+    let t = truncated(u * (n as f32));
+    if t < n as u64 {
+        t as u8
+    } else if n == 0 {
+        0
+    } else {
+        n - 1
+    }
+}
+
+// One of n, from one draw.
+pub fn pick(s: NoiseStream, n: u8) -> PickDraw
+    ensures { λ r. ⌜ r ≡ pickOf s n ⌝ }
+{
+    let d = s.unit();
+    let value = picked(d.value, n);
+    let next = d.stream;
+    PickDraw {
+        value: value,
+        stream: next,
+    }
+}
+
+// Yes with the chance p, from one draw.
+pub fn chance(s: NoiseStream, p: f32) -> ChanceDraw
+    ensures { λ r. ⌜ r ≡ chanceOf s p ⌝ }
+{
+    let d = s.unit();
+    let next = d.stream;
+    ChanceDraw {
+        value: d.value < p,
+        stream: next,
+    }
+}
+
+// A fair coin, from one draw.
+pub fn coin(s: NoiseStream) -> ChanceDraw
+    ensures { λ r. ⌜ r ≡ coinOf s ⌝ }
+{
+    chance(s, 0.5)
+}
