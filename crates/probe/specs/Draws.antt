@@ -2,40 +2,44 @@
 use mathlib.Core.Bool.{Bool, true, false}
 use mathlib.Core.List.{List}
 use Prim.Native.Nat.{ℕ}
-use lib.Ieee.{Float, binary32, toBits}
+use lib.Ieee.{binary32, toBits}
 use Rattle.laws.specs.Lists.{listTo}
 use Rattle.streams.specs.Stream.{after, nextU64Of, unitOf}
 use Rattle.streams.specs.Draw.{pickOf, chanceOf, coinOf}
 use Rattle.streams.specs.declared.stream.NoiseStream.{NoiseStream}
 use Rattle.streams.specs.declared.stream.WordDraw.{WordDraw}
+use Rattle.streams.specs.declared.stream.UnitDraw.{UnitDraw}
+use Rattle.streams.specs.declared.draw.PickDraw.{PickDraw}
+use Rattle.streams.specs.declared.draw.ChanceDraw.{ChanceDraw}
 use Rattle.probe.specs.declared.draws.Kind.{Kind}
 
 abbrev pub streamAt : ℕ → ℕ → NoiseStream
 streamAt seed counter = record { seed = seed; counter = counter }
 
+abbrev pub unitWordOf : UnitDraw → WordDraw
+unitWordOf d = record { value = toBits binary32 (d .value); stream = d .stream }
+
+abbrev pub pickWordOf : PickDraw → WordDraw
+pickWordOf d = record { value = d .value; stream = d .stream }
+
 abbrev pub flagOf : Bool → ℕ
 flagOf true = 1
 flagOf false = 0
 
-abbrev pub unitBitsOf : NoiseStream → WordDraw
-unitBitsOf s = record { value = toBits binary32 (unitOf s .value); stream = unitOf s .stream }
-
-abbrev pub pickWordOf : NoiseStream → ℕ → WordDraw
-pickWordOf s n = record { value = pickOf s n .value; stream = pickOf s n .stream }
-
-abbrev pub chanceWordOf : NoiseStream → Float → WordDraw
-chanceWordOf s p = record { value = flagOf (chanceOf s p .value); stream = chanceOf s p .stream }
-
-abbrev pub coinWordOf : NoiseStream → WordDraw
-coinWordOf s = record { value = flagOf (coinOf s .value); stream = coinOf s .stream }
+abbrev pub chanceWordOf : ChanceDraw → WordDraw
+chanceWordOf d = record { value = flagOf (d .value); stream = d .stream }
 
 unfoldable pub drawnOf : Kind → NoiseStream → WordDraw
 drawnOf Kind.Word s = nextU64Of s
-drawnOf Kind.Unit s = unitBitsOf s
-drawnOf (Kind.Pick n) s = pickWordOf s n
-drawnOf (Kind.Chance p) s = chanceWordOf s p
-drawnOf Kind.Coin s = coinWordOf s
+drawnOf Kind.Unit s = unitWordOf (unitOf s)
+drawnOf (Kind.Pick n) s = pickWordOf (pickOf s n)
+drawnOf (Kind.Chance p) s = chanceWordOf (chanceOf s p)
+drawnOf Kind.Coin s = chanceWordOf (coinOf s)
+
+-- what is drawn after i draws
+abbrev pub drawOf : Kind → NoiseStream → ℕ → ℕ
+drawOf kind s i = drawnOf kind (after s i) .value
 
 -- the first n draws from s
 abbrev pub drawsOf : Kind → NoiseStream → ℕ → List ℕ
-drawsOf kind s n = listTo (λ (i : ℕ). drawnOf kind (after s i) .value) n
+drawsOf kind s n = listTo (drawOf kind s) n

@@ -1,13 +1,16 @@
 // Runs of draws of one kind, from a stream with any seed and counter, over the whole of `out`.
 ghost use mathlib.Core.Path.{_≡_};
 ghost use lib.ListN.{length};
-ghost use Rattle.probe.specs.Draws.{streamAt, flagOf, unitBitsOf, pickWordOf, chanceWordOf, coinWordOf, drawnOf, drawsOf};
+ghost use Rattle.probe.specs.Draws.{streamAt, unitWordOf, pickWordOf, flagOf, chanceWordOf, drawnOf, drawsOf};
 ghost use Rattle.probe.specs.declared.draws.Kind.{Kind};
+use streams::draw::ChanceDraw;
+use streams::draw::PickDraw;
 use streams::draw::chance;
 use streams::draw::coin;
 use streams::draw::pick;
 use streams::float::bits_of;
 use streams::stream::NoiseStream;
+use streams::stream::UnitDraw;
 use streams::stream::WordDraw;
 
 // What is drawn.
@@ -19,16 +22,10 @@ pub enum Kind {
     Coin,
 }
 
-fn flag(b: bool) -> u64
-    ensures { λ r. ⌜ r ≡ flagOf b ⌝ }
+// A unit by its bits.
+fn unit_word(d: UnitDraw) -> WordDraw
+    ensures { λ r. ⌜ r ≡ unitWordOf d ⌝ }
 {
-    if b { 1 } else { 0 }
-}
-
-fn unit_bits(s: NoiseStream) -> WordDraw
-    ensures { λ r. ⌜ r ≡ unitBitsOf s ⌝ }
-{
-    let d = s.unit();
     let bits = bits_of(d.value);
     let next = d.stream;
     WordDraw {
@@ -37,10 +34,9 @@ fn unit_bits(s: NoiseStream) -> WordDraw
     }
 }
 
-fn pick_word(s: NoiseStream, n: u8) -> WordDraw
-    ensures { λ r. ⌜ r ≡ pickWordOf s n ⌝ }
+fn pick_word(d: PickDraw) -> WordDraw
+    ensures { λ r. ⌜ r ≡ pickWordOf d ⌝ }
 {
-    let d = pick(s, n);
     let next = d.stream;
     WordDraw {
         value: d.value as u64,
@@ -48,22 +44,16 @@ fn pick_word(s: NoiseStream, n: u8) -> WordDraw
     }
 }
 
-fn chance_word(s: NoiseStream, p: f32) -> WordDraw
-    ensures { λ r. ⌜ r ≡ chanceWordOf s p ⌝ }
+fn flag(b: bool) -> u64
+    ensures { λ r. ⌜ r ≡ flagOf b ⌝ }
 {
-    let d = chance(s, p);
-    let bit = flag(d.value);
-    let next = d.stream;
-    WordDraw {
-        value: bit,
-        stream: next,
-    }
+    if b { 1 } else { 0 }
 }
 
-fn coin_word(s: NoiseStream) -> WordDraw
-    ensures { λ r. ⌜ r ≡ coinWordOf s ⌝ }
+// 1 for yes.
+fn chance_word(d: ChanceDraw) -> WordDraw
+    ensures { λ r. ⌜ r ≡ chanceWordOf d ⌝ }
 {
-    let d = coin(s);
     let bit = flag(d.value);
     let next = d.stream;
     WordDraw {
@@ -78,10 +68,10 @@ fn drawn(kind: Kind, s: NoiseStream) -> WordDraw
 {
     match kind {
         Kind::Word => s.next_u64(),
-        Kind::Unit => unit_bits(s),
-        Kind::Pick(n) => pick_word(s, n),
-        Kind::Chance(p) => chance_word(s, p),
-        Kind::Coin => coin_word(s),
+        Kind::Unit => unit_word(s.unit()),
+        Kind::Pick(n) => pick_word(pick(s, n)),
+        Kind::Chance(p) => chance_word(chance(s, p)),
+        Kind::Coin => chance_word(coin(s)),
     }
 }
 

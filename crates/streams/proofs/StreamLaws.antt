@@ -36,25 +36,22 @@ module _ (s : NoiseStream) where
   unfolding after
   after-after m n = rw (wraps m n)
 
-  pub word-after : (m n : ℕ) → wordAt (after s m) n ≡ wordAt s (m + n)
-  unfolding after wordAt
-  word-after m n = rw (wraps m n)
+  -- after m draws comes draw m + 1
+  pub next-u64-number : (m : ℕ) → nextU64Of (after s m) ≡ record { value = wordAt s (m + 1); stream = after s (m + 1) }
+  unfolding nextU64Of after wordAt
+  next-u64-number m = rw (wraps m 1)
+
+  pub unit-number : (m : ℕ) → unitOf (after s m) ≡ record { value = unitAt s (m + 1); stream = after s (m + 1) }
+  unfolding unitOf unitAt after wordAt
+  unit-number m = rw (wraps m 1)
 
   pub word-lt : (n : ℕ) → wordAt s n < 2 ^ 64
   unfolding wordAt
   word-lt n = splitmix-draw-lt (s .seed) ((s .counter + n) % 2 ^ 64)
 
-  pub next-u64-word : nextU64Of s .value ≡ wordAt s 1
-  unfolding nextU64Of
-  next-u64-word = refl
-
   pub next-u64-advances : nextU64Of s .stream ≡ after s 1
   unfolding nextU64Of
   next-u64-advances = refl
-
-  pub unit-first : unitOf s .value ≡ unitAt s 1
-  unfolding unitOf
-  unit-first = refl
 
   pub unit-advances : unitOf s .stream ≡ after s 1
   unfolding unitOf
@@ -86,3 +83,7 @@ unit-by k h = record {
 pub unit-at : (s : NoiseStream) (n : ℕ) → IsUnit (wordAt s n / 2 ^ 40) (unitAt s n)
 unfolding unitAt
 unit-at s n = unit-by (wordAt s n / 2 ^ 40) (omega (arith, word-lt s n))
+
+pub unit-is : (s : NoiseStream) → IsUnit (wordAt s 1 / 2 ^ 40) (unitOf s .value)
+unfolding unitOf
+unit-is s = unit-at s 1

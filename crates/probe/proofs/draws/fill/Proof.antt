@@ -1,16 +1,15 @@
 -- After i turns the stream has made i draws, and they stand in the first i places. Assumes nothing.
 use mathlib.Core.Path.{_≡_, refl, sym, ap, _∙_}
 use mathlib.Core.List.{_++_}
-use Prim.Native.Nat.{ℕ, _+_, _-_, _≤_}
+use Prim.Native.Nat.{_-_, _≤_}
 use native.Mathlib.Omega.{arith}
 use borrow.Author.Needs.{needs}
 use lib.ListN.{length, drop}
-use Rattle.laws.specs.Lists.{listTo}
-use Rattle.laws.proofs.Lists.{fill-on, fill-all}
+use Rattle.laws.proofs.Lists.{fill-none, fill-on, fill-all}
 use Rattle.streams.specs.Stream.{after}
 use Rattle.streams.specs.declared.stream.WordDraw.{WordDraw}
 use Rattle.streams.proofs.StreamLaws.{after-none}
-use Rattle.probe.specs.Draws.{streamAt, drawnOf, drawsOf}
+use Rattle.probe.specs.Draws.{streamAt, drawnOf, drawOf, drawsOf}
 use Rattle.probe.proofs.DrawsLaws.{drawn-on}
 use Rattle.probe.proofs.draws.fill.Statement.{statement}
 use Rattle.probe.proofs.draws.fill.Tie as tie
@@ -23,10 +22,10 @@ abbrev μ-loop : tie.MeasureT-loop
 μ-loop kind seed counter out₀ s₀ i₀ out s i = length out₀ - i
 
 loop-holds : tie.Need-loop-holds Inv-loop μ-loop
-unfolding listTo
 loop-holds c =
     let a = c .before .args in
-    (omega arith, refl, sym (after-none (streamAt (a .seed) (a .counter)) (omega arith)), refl)
+    let s = streamAt (a .seed) (a .counter) in
+    (omega arith, refl, sym (after-none s (omega arith)), sym (fill-none (drawOf (a .kind) s) (a .out .now)))
 
 drawn-requires : tie.Need-drawn-requires Inv-loop μ-loop
 drawn-requires c κs = search needs
@@ -52,7 +51,7 @@ loop-again c =
       search needs,
       search needs,
       ap (λ (d : WordDraw). d .stream) e ∙ drawn-on (a .kind) s (l .i),
-      rw (l .inv .3, e) (fill-on (λ (i : ℕ). drawnOf (a .kind) (after s i) .value) (a .out .now) (l .i) (omega arith)),
+      rw (l .inv .3, e) (fill-on (drawOf (a .kind) s) (a .out .now) (l .i) (omega arith)),
     )
 
 same-length : tie.Need-same-length Inv-loop μ-loop
@@ -63,7 +62,7 @@ returns c =
     let l = c .before .loop in
     let a = c .before .before .before .args in
     let e : l .i ≡ length (a .out .now) = omega arith in
-    (rw e at (l .inv .3)) ∙ fill-all (λ (i : ℕ). drawnOf (a .kind) (after (streamAt (a .seed) (a .counter)) i) .value) (a .out .now)
+    (rw e at (l .inv .3)) ∙ fill-all (drawOf (a .kind) (streamAt (a .seed) (a .counter))) (a .out .now)
 
 pub fill-spec : {M : Type 1} → statement M
 fill-spec =
