@@ -1,0 +1,62 @@
+//! Feeds the Rust and our static library the same inputs and compares every value.
+//!
+//! `differential COUNT START` compares over COUNT seeds; `differential --record DIR` writes a sample
+//! of the Rust's answers. The Rust's own files stand beside this one when it is compiled (see `run`).
+
+// the Rust's files are compiled whole, and the driver asks for a part of them
+#![allow(dead_code, unused_imports)]
+
+mod compose;
+mod dsp;
+mod style;
+mod synth;
+
+mod draws;
+mod ours;
+mod record;
+mod tally;
+
+use tally::Tally;
+
+/// Seed `i` of a run: even ones as they are, odd ones with their bits reversed, so that high seeds
+/// are tried too.
+fn seed_of(i: u64) -> u64 {
+    if i % 2 == 0 { i } else { i.reverse_bits() }
+}
+
+/// Compares every stage over the seeds `from..to` of the run.
+fn compare(from: u64, to: u64) -> Tally {
+    let mut tally = Tally::default();
+    for i in from..to {
+        draws::compare_seed(&mut tally, seed_of(i));
+    }
+    tally
+}
+
+/// The run in two halves, each on a thread of its own.
+fn compare_all(start: u64, count: u64) -> u64 {
+    let end = start
+        .checked_add(count)
+        .expect("a run that ends by the largest number");
+    let half = start + count / 2;
+    std::thread::scope(|scope| {
+        let other = scope.spawn(move || compare(half, end));
+        compare(start, half).compared + other.join().expect("the second half ended").compared
+    })
+}
+
+fn number(word: Option<&String>, otherwise: u64) -> u64 {
+    word.map_or(otherwise, |w| w.parse().expect("a whole number"))
+}
+
+fn main() {
+    let words: Vec<String> = std::env::args().skip(1).collect();
+    if words.first().is_some_and(|w| w == "--record") {
+        return record::write(words.get(1).expect("a folder to write to"));
+    }
+    let (count, start) = (number(words.first(), 100_000), number(words.get(1), 0));
+    let mut edges = Tally::default();
+    draws::compare_edges(&mut edges);
+    let values = edges.compared + compare_all(start, count);
+    println!("{count} seeds from {start}: {values} values compared, no difference");
+}
