@@ -1,5 +1,5 @@
 -- Where a conversion or a division is exact, and the order of exact values. Assumes nothing.
-use mathlib.Core.Path.{_≡_, refl, sym, ap, _∙_, subst}
+use mathlib.Core.Path.{_≡_, sym, ap, _∙_, subst}
 use Prim.Native.Nat.{ℕ, zero, suc, _*_, _^_, _≤_, _<_}
 use native.Mathlib.Nat.{lt-of-not-le, not-le-of-lt, le-of-eq, zero-mul, mul-comm, mul-assoc, mul-left-comm, mul-mul-mul-comm, mul-pos}
 use mathlib.Core.Bool.{Bool, true, false, cond, true≢false}

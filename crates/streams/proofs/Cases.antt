@@ -1,7 +1,6 @@
 -- The checked cases hold: every row's two sides compute to the same numbers. Assumes nothing.
 use mathlib.Core.Path.{_≡_, refl}
-use mathlib.Core.List.{List, map}
-use Prim.Native.Nat.{ℕ}
+use mathlib.Core.List.{map}
 use Rattle.streams.specs.Mix.{splitmix64Of}
 use Rattle.streams.specs.Stream.{unitBy}
 use Rattle.streams.specs.Draw.{pickedOf}

@@ -1,5 +1,5 @@
 -- A pick of n is below n, and picks, chances and coins make one draw each. Assumes nothing.
-use mathlib.Core.Path.{_≡_, refl}
+use mathlib.Core.Path.{_≡_}
 use Prim.Native.Nat.{ℕ, _-_, _<_, min}
 use native.Mathlib.Omega.{arith}
 use lib.Ieee.{Float, binary32, mul, ofBits, toUnsigned}

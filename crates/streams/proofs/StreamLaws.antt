@@ -72,7 +72,7 @@ unit-exact k h =
     split : 2 ^ 149 ≡ 2 ^ 125 * 2 ^ 24
     split = refl
 
-pub unit-by : (k : ℕ) → k < 2 ^ 24 → IsUnit k (unitBy k)
+unit-by : (k : ℕ) → k < 2 ^ 24 → IsUnit k (unitBy k)
 unit-by k h = record {
   digits = h;
   exact = unit-exact k h;

@@ -1,6 +1,6 @@
 -- The sum wraps once where the code wraps the product and the sum. Assumes nothing.
 use mathlib.Core.Path.{_≡_, ap, _∙_}
-use Prim.Native.Nat.{ℕ, _+_, _*_, _%_, _^_}
+use Prim.Native.Nat.{_+_, _*_, _%_, _^_}
 use native.Mathlib.Omega.{arith}
 use Rattle.streams.specs.Mix.{splitmix64Of, splitmixDrawOf, goldenGamma}
 use borrow.Author.Needs.{needs}
