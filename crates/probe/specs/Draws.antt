@@ -1,7 +1,9 @@
 -- Runs of draws as numbers. Definitions only.
+use mathlib.Core.Path.{_≡_}
 use mathlib.Core.Bool.{Bool, true, false}
 use mathlib.Core.List.{List}
 use Prim.Native.Nat.{ℕ}
+use lib.ListN.{length}
 use lib.Ieee.{binary32, toBits}
 use Rattle.laws.specs.Lists.{listTo}
 use Rattle.streams.specs.Stream.{after, nextU64Of, unitOf}
@@ -43,3 +45,8 @@ drawOf kind s i = drawnOf kind (after s i) .value
 -- the first n draws from s
 abbrev pub drawsOf : Kind → NoiseStream → ℕ → List ℕ
 drawsOf kind s n = listTo (drawOf kind s) n
+
+-- a run of draws from s over all of `out`: what stands there afterwards, and the counter r that the stream is left with
+pub record Ran (kind : Kind) (s : NoiseStream) (out out′ : List ℕ) (r : ℕ) : Type 0 where
+  pub draws : out′ ≡ drawsOf kind s (length out)
+  pub counter : r ≡ after s (length out) .counter

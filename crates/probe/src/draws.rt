@@ -1,7 +1,7 @@
-// Runs of draws of one kind, from a stream with any seed and counter, over the whole of `out`.
+// Runs of draws of one kind, from a stream with any seed and counter, over the whole of `out`. Each
+// answers the counter that its stream is left with.
 ghost use mathlib.Core.Path.{_≡_};
-ghost use lib.ListN.{length};
-ghost use Rattle.probe.specs.Draws.{streamAt, unitWordOf, pickWordOf, flagOf, chanceWordOf, drawnOf, drawsOf};
+ghost use Rattle.probe.specs.Draws.{streamAt, unitWordOf, pickWordOf, flagOf, chanceWordOf, drawnOf, Ran};
 ghost use Rattle.probe.specs.declared.draws.Kind.{Kind};
 use streams::draw::ChanceDraw;
 use streams::draw::PickDraw;
@@ -75,8 +75,8 @@ fn drawn(kind: Kind, s: NoiseStream) -> WordDraw
     }
 }
 
-fn fill(kind: Kind, seed: u64, counter: u64, out: &mut [u64])
-    ensures { λ r. ⌜ now (out .exit) ≡ drawsOf kind (streamAt seed counter) (length (now (out .entry))) ⌝ }
+fn fill(kind: Kind, seed: u64, counter: u64, out: &mut [u64]) -> u64
+    ensures { λ r. ⌜ Ran kind (streamAt seed counter) (now (out .entry)) (now (out .exit)) r ⌝ }
 {
     let mut s = NoiseStream {
         seed: seed,
@@ -89,44 +89,45 @@ fn fill(kind: Kind, seed: u64, counter: u64, out: &mut [u64])
         s = d.stream;
         i += 1;
     }
+    s.counter
 }
 
 // The draws as words.
 #[no_mangle]
-pub extern "C" fn probe_words(seed: u64, counter: u64, out: &mut [u64])
-    ensures { λ r. ⌜ now (out .exit) ≡ drawsOf Kind.Word (streamAt seed counter) (length (now (out .entry))) ⌝ }
+pub extern "C" fn probe_words(seed: u64, counter: u64, out: &mut [u64]) -> u64
+    ensures { λ r. ⌜ Ran Kind.Word (streamAt seed counter) (now (out .entry)) (now (out .exit)) r ⌝ }
 {
-    fill(Kind::Word, seed, counter, out);
+    fill(Kind::Word, seed, counter, out)
 }
 
 // The draws as units, by their bits.
 #[no_mangle]
-pub extern "C" fn probe_units(seed: u64, counter: u64, out: &mut [u64])
-    ensures { λ r. ⌜ now (out .exit) ≡ drawsOf Kind.Unit (streamAt seed counter) (length (now (out .entry))) ⌝ }
+pub extern "C" fn probe_units(seed: u64, counter: u64, out: &mut [u64]) -> u64
+    ensures { λ r. ⌜ Ran Kind.Unit (streamAt seed counter) (now (out .entry)) (now (out .exit)) r ⌝ }
 {
-    fill(Kind::Unit, seed, counter, out);
+    fill(Kind::Unit, seed, counter, out)
 }
 
 // Picks of n.
 #[no_mangle]
-pub extern "C" fn probe_picks(seed: u64, counter: u64, n: u8, out: &mut [u64])
-    ensures { λ r. ⌜ now (out .exit) ≡ drawsOf (Kind.Pick n) (streamAt seed counter) (length (now (out .entry))) ⌝ }
+pub extern "C" fn probe_picks(seed: u64, counter: u64, n: u8, out: &mut [u64]) -> u64
+    ensures { λ r. ⌜ Ran (Kind.Pick n) (streamAt seed counter) (now (out .entry)) (now (out .exit)) r ⌝ }
 {
-    fill(Kind::Pick(n), seed, counter, out);
+    fill(Kind::Pick(n), seed, counter, out)
 }
 
 // Chances of p, 1 for yes.
 #[no_mangle]
-pub extern "C" fn probe_chances(seed: u64, counter: u64, p: f32, out: &mut [u64])
-    ensures { λ r. ⌜ now (out .exit) ≡ drawsOf (Kind.Chance p) (streamAt seed counter) (length (now (out .entry))) ⌝ }
+pub extern "C" fn probe_chances(seed: u64, counter: u64, p: f32, out: &mut [u64]) -> u64
+    ensures { λ r. ⌜ Ran (Kind.Chance p) (streamAt seed counter) (now (out .entry)) (now (out .exit)) r ⌝ }
 {
-    fill(Kind::Chance(p), seed, counter, out);
+    fill(Kind::Chance(p), seed, counter, out)
 }
 
 // Coins, 1 for yes.
 #[no_mangle]
-pub extern "C" fn probe_coins(seed: u64, counter: u64, out: &mut [u64])
-    ensures { λ r. ⌜ now (out .exit) ≡ drawsOf Kind.Coin (streamAt seed counter) (length (now (out .entry))) ⌝ }
+pub extern "C" fn probe_coins(seed: u64, counter: u64, out: &mut [u64]) -> u64
+    ensures { λ r. ⌜ Ran Kind.Coin (streamAt seed counter) (now (out .entry)) (now (out .exit)) r ⌝ }
 {
-    fill(Kind::Coin, seed, counter, out);
+    fill(Kind::Coin, seed, counter, out)
 }

@@ -1,9 +1,9 @@
 //! The draws: stage seeds, words, units, picks, chances, coins.
 
 use crate::compose::reach::{STAGES, chance, coin, pick};
-use crate::dsp::reach::{next_u64, seed_of, stream};
+use crate::dsp::reach::{counter_of, next_u64, seed_of, stream};
 use crate::ours;
-use crate::tally::Tally;
+use crate::tally::{Run, Tally};
 
 /// How many draws of each stage's stream are compared.
 const DRAWS: usize = 300;
@@ -28,16 +28,20 @@ fn rust_run(
     counter: u64,
     count: usize,
     mut draw: impl FnMut(&mut crate::dsp::NoiseStream) -> u64,
-) -> Vec<u64> {
+) -> Run {
     let mut s = stream(seed, counter);
-    (0..count).map(|_| draw(&mut s)).collect()
+    let values = (0..count).map(|_| draw(&mut s)).collect();
+    Run {
+        values,
+        counter: counter_of(&s),
+    }
 }
 
 /// What one of our functions writes into `count` places.
-fn our_run(count: usize, fill: impl FnOnce(&mut [u64])) -> Vec<u64> {
-    let mut out = vec![u64::MAX; count];
-    fill(&mut out);
-    out
+fn our_run(count: usize, fill: impl FnOnce(&mut [u64]) -> u64) -> Run {
+    let mut values = vec![u64::MAX; count];
+    let counter = fill(&mut values);
+    Run { values, counter }
 }
 
 /// Words and units of the stream with this seed, from this counter on.
@@ -91,6 +95,18 @@ pub fn compare_seed(tally: &mut Tally, seed: u64) {
     compare_chances(tally, seed);
 }
 
+/// Truncation of values all over the range of an f32, NaNs and infinities included.
+fn compare_truncation(tally: &mut Tally) {
+    for bits in (0..=u32::MAX)
+        .step_by(65_521)
+        .chain([0x7f80_0000, 0xff80_0000])
+    {
+        let x = f32::from_bits(bits);
+        let input = || format!("truncation of the f32 with bits {bits:#x}");
+        tally.same(input, x as u64, ours::truncated(x));
+    }
+}
+
 /// The inverse of `dsp.rs`'s mixer: what it mixes to `z`.
 fn unmixed(z: u64) -> u64 {
     let unshifted = |z: u64, k: u32| (0..64 / k).fold(z, |x, _| z ^ (x >> k));
@@ -110,10 +126,11 @@ pub fn stream_with(k: u64) -> u64 {
     unmixed(k << 40).wrapping_sub(0x9e37_79b9_7f4a_7c15)
 }
 
-/// Inputs at the limits: the counter where it wraps, stages that are none, buffers with no place or more
-/// than one, and picks around the ends of each part.
+/// Inputs at the limits: the counter where it wraps, floats of every size, stages that are none, buffers
+/// with no place or more than one, and picks around the ends of each part.
 pub fn compare_edges(tally: &mut Tally) {
     compare_stream(tally, 7, u64::MAX - 3, 8);
+    compare_truncation(tally);
     for stage in (0..=255u8).filter(|s| !(1..=8).contains(s)) {
         let mut out = [5u64; 2];
         let answer = ours::stage_seed(stage, 1, &mut out);

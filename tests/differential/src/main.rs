@@ -4,11 +4,13 @@
 //! of the Rust's answers. The Rust's own files stand beside this one when it is compiled (see `run`).
 
 // the Rust's files are compiled whole, and the driver asks for a part of them
-#![allow(dead_code, unused_imports)]
-
+#[allow(dead_code, unused_imports)]
 mod compose;
+#[allow(dead_code)]
 mod dsp;
+#[allow(dead_code)]
 mod style;
+#[allow(dead_code)]
 mod synth;
 
 mod draws;

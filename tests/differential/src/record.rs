@@ -1,68 +1,48 @@
 //! Writes a sample of the Rust's answers, which crate `replay` runs with no Rust at hand. A line is a
 //! letter and three words of 16 hexadecimal digits: what is asked, two arguments, the answer.
 
-use std::fmt::Write;
-
 use crate::compose::reach::{STAGES, coin, pick};
 use crate::draws::stream_with;
 use crate::dsp::reach::{next_u64, seed_of, stream};
 
-fn line(out: &mut String, what: char, a: u64, b: u64, answer: u64) {
-    writeln!(out, "{what} {a:016x} {b:016x} {answer:016x}").expect("a string takes all");
-}
+/// What is asked, its two arguments, the answer.
+type Line = (char, u64, u64, u64);
 
 /// S: the seed of stage b's stream for the song seed a. W, U: draw b of the stream a, as a word and as
-/// a unit's bits. P: the first pick of b from the stream a. C: the first coin of the stream a.
-fn draws() -> String {
-    let mut out = String::new();
-    for i in 0..16u64 {
-        let seed = crate::seed_of(i);
-        for (id, stage) in (1u64..).zip(STAGES) {
-            let theirs = seed_of(&stage.stream(seed));
-            line(&mut out, 'S', seed, id, theirs);
-            for n in [1, 2, 300] {
-                line(
-                    &mut out,
-                    'W',
-                    theirs,
-                    n,
-                    next_u64(&mut stream(theirs, n - 1)),
-                );
-                line(
-                    &mut out,
-                    'U',
-                    theirs,
-                    n,
-                    stream(theirs, n - 1).unit().to_bits().into(),
-                );
-            }
-            line(
-                &mut out,
-                'C',
-                theirs,
-                0,
-                coin(&mut stream(theirs, 0)).into(),
-            );
+/// a unit's bits. C: the first coin of the stream a.
+fn stage_lines(lines: &mut Vec<Line>, seed: u64) {
+    for (id, stage) in (1u64..).zip(STAGES) {
+        let theirs = seed_of(&stage.stream(seed));
+        let at = |n: u64| stream(theirs, n - 1);
+        lines.push(('S', seed, id, theirs));
+        for n in [1, 2, 300] {
+            lines.push(('W', theirs, n, next_u64(&mut at(n))));
+            lines.push(('U', theirs, n, at(n).unit().to_bits().into()));
         }
+        lines.push(('C', theirs, 0, coin(&mut at(1)).into()));
     }
-    // document 01's cases 2 and 3, and the ends of the parts for each n
+}
+
+/// P: the first pick of b from the stream a. Document 01's cases 2 and 3, then for each n the end of a
+/// part in the middle.
+fn pick_lines(lines: &mut Vec<Line>) {
+    let middle = |n: u64| (((n / 2) << 24) / n.max(1), n);
     let cases = [(13_981_013, 12), (16_777_215, 12)];
-    let ends = (0..=255u64)
-        .map(|n| ((n / 2) << 24, n))
-        .map(|(k, n)| (k / n.max(1), n));
-    for (k, n) in cases.into_iter().chain(ends) {
+    for (k, n) in cases.into_iter().chain((0..=255).map(middle)) {
         let seed = stream_with(k);
-        line(
-            &mut out,
-            'P',
-            seed,
-            n,
-            pick(&mut stream(seed, 0), n as usize) as u64,
-        );
+        let answer = pick(&mut stream(seed, 0), n as usize) as u64;
+        lines.push(('P', seed, n, answer));
     }
-    out
 }
 
 pub fn write(folder: &str) {
-    std::fs::write(format!("{folder}/draws"), draws()).expect("the folder can be written to");
+    let mut lines = Vec::new();
+    for i in 0..16 {
+        stage_lines(&mut lines, crate::seed_of(i));
+    }
+    pick_lines(&mut lines);
+    let text: String = (lines.iter())
+        .map(|(what, a, b, answer)| format!("{what} {a:016x} {b:016x} {answer:016x}\n"))
+        .collect();
+    std::fs::write(format!("{folder}/draws"), text).expect("the folder can be written to");
 }

@@ -2,6 +2,12 @@
 
 use std::fmt::Debug;
 
+/// What a run of draws gave, and the counter that its stream is left with.
+pub struct Run {
+    pub values: Vec<u64>,
+    pub counter: u64,
+}
+
 #[derive(Default)]
 pub struct Tally {
     pub compared: u64,
@@ -17,15 +23,17 @@ impl Tally {
         }
     }
 
-    /// A run of values more, element by element.
-    pub fn same_run(&mut self, input: impl Fn() -> String, rust: &[u64], ours: &[u64]) {
-        assert_eq!(rust.len(), ours.len(), "both sides were asked for as many");
-        if rust == ours {
-            self.compared += rust.len() as u64;
-            return;
-        }
-        for (i, (r, o)) in rust.iter().zip(ours).enumerate() {
+    /// A run of draws more: each value, and the counter afterwards.
+    pub fn same_run(&mut self, input: impl Fn() -> String, rust: &Run, ours: &Run) {
+        assert_eq!(
+            rust.values.len(),
+            ours.values.len(),
+            "both sides were asked for as many"
+        );
+        for (i, (r, o)) in rust.values.iter().zip(&ours.values).enumerate() {
             self.same(|| format!("{}, draw {}", input(), i + 1), r, o);
         }
+        let counter = || format!("{}, the counter afterwards", input());
+        self.same(counter, rust.counter, ours.counter);
     }
 }

@@ -10,6 +10,10 @@ pub(crate) fn seed_of(s: &NoiseStream) -> u64 {
     s.seed
 }
 
+pub(crate) fn counter_of(s: &NoiseStream) -> u64 {
+    s.counter
+}
+
 pub(crate) fn next_u64(s: &mut NoiseStream) -> u64 {
     s.next_u64()
 }

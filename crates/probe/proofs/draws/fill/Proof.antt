@@ -7,6 +7,7 @@ use borrow.Author.Needs.{needs}
 use lib.ListN.{length, drop}
 use Rattle.laws.proofs.Lists.{fill-none, fill-on, fill-all}
 use Rattle.streams.specs.Stream.{after}
+use Rattle.streams.specs.declared.stream.NoiseStream.{NoiseStream}
 use Rattle.streams.specs.declared.stream.WordDraw.{WordDraw}
 use Rattle.streams.proofs.StreamLaws.{after-none}
 use Rattle.probe.specs.Draws.{streamAt, drawnOf, drawOf, drawsOf}
@@ -61,8 +62,12 @@ returns : tie.Need-returns Inv-loop μ-loop
 returns c =
     let l = c .before .loop in
     let a = c .before .before .before .args in
+    let s = streamAt (a .seed) (a .counter) in
     let e : l .i ≡ length (a .out .now) = omega arith in
-    (rw e at (l .inv .3)) ∙ fill-all (drawOf (a .kind) (streamAt (a .seed) (a .counter))) (a .out .now)
+    record {
+      draws = (rw e at (l .inv .3)) ∙ fill-all (drawOf (a .kind) s) (a .out .now);
+      counter = ap (λ (t : NoiseStream). t .counter) (rw e at (l .inv .2));
+    }
 
 pub fill-spec : {M : Type 1} → statement M
 fill-spec =
