@@ -2,3 +2,4 @@ pub mod Product
 pub mod Exact
 pub mod Truncation
 pub mod Lists
+pub mod Runs

@@ -1,11 +1,58 @@
--- A buffer filled from its start: the first i entries are f's, the rest is what stood there. Assumes nothing.
-use mathlib.Core.Path.{_≡_, refl, ap, _∙_}
+-- Lists that a loop makes: a buffer filled from its start, an array filled over its padding, a test of the entries so far.
+-- Assumes nothing.
+use mathlib.Core.Path.{_≡_, refl, sym, ap, _∙_, subst}
+use mathlib.Core.Bool.{Bool, false, _||_, or-false, or-assoc}
+use mathlib.Core.Logic.{⊎-elim}
 use mathlib.Core.List.{List, [], _∷_, _++_, append-assoc, append-nil}
-use Prim.Native.Nat.{ℕ, zero, suc, _+_, _<_}
+use Prim.Native.Nat.{ℕ, zero, suc, _+_, _-_, _<_, _≤_}
 use native.Mathlib.Numerals.{add-one}
-use lib.ListN.{length, set, drop, getD, length-append}
-use lib.Seq.{drop-cons, drop-length, set-at}
-use Rattle.laws.specs.Lists.{listTo}
+use native.Mathlib.Nat.{not-suc-le-zero, le-of-suc-le-suc, eq-or-lt-of-le, add-zero, sub-zero}
+use native.Mathlib.Omega.{arith}
+use lib.ListN.{length, set, take, drop, replicate, getD, length-append, length-replicate, List·getD-append}
+use lib.Seq.{take-length, drop-cons, drop-length, set-at, getD-append-add}
+use Rattle.laws.specs.Lists.{listTo, pad, anyOf}
+
+module _ {A : Type 0} where
+  pub pad-push : (z : A) (cap : ℕ) (xs : List A) (a : A) (n : ℕ) → length xs ≡ n → n < cap → set (pad z cap xs) n a ≡ pad z cap (xs ++ (a ∷ []))
+  unfolding pad
+  pad-push z cap xs a n k h =
+      let e : cap - length xs ≡ suc (cap - (length xs + 1)) = omega arith in
+      let l : length (xs ++ (a ∷ [])) ≡ length xs + 1 = length-append xs (a ∷ []) in
+      rw (e, set-at xs _ _ a n, l, append-assoc)
+
+  -- a full array has no padding
+  pub pad-full : (z : A) (cap : ℕ) (xs : List A) → length xs ≡ cap → pad z cap xs ≡ xs
+  unfolding pad
+  pad-full z cap xs h =
+      let e : cap - length xs ≡ 0 = omega arith in
+      rw (e, append-nil)
+
+  pub length-pad : (z : A) (cap : ℕ) (xs : List A) → length xs ≤ cap → length (pad z cap xs) ≡ cap
+  unfolding pad
+  length-pad z cap xs h = simp (length-append, length-replicate) (omega arith)
+
+  -- the list's own entries stand before the padding
+  pub pad-at : (z : A) (cap : ℕ) (xs : List A) (k : ℕ) → k < length xs → getD (pad z cap xs) k z ≡ getD xs k z
+  unfolding pad
+  pad-at z cap xs k h = List·getD-append xs (replicate (cap - length xs) z) z k h
+
+module _ {A : Type 0} (p : A → Bool) where
+  pub any-none : (xs : List A) → anyOf p (take 0 xs) ≡ false
+  unfolding anyOf
+  any-none xs = refl
+
+  -- one entry more is tested
+  any-suc : (xs : List A) (i : ℕ) (d : A) → i < length xs → anyOf p (take (suc i) xs) ≡ (anyOf p (take i xs) || p (getD xs i d))
+  unfolding anyOf
+  any-suc [] i d h = absurd (not-suc-le-zero h)
+  any-suc (x ∷ xs) zero d h = or-false (p x)
+  any-suc (x ∷ xs) (suc i) d h = ap (λ (b : Bool). p x || b) (any-suc xs i d (le-of-suc-le-suc h)) ∙ sym (or-assoc (p x) (anyOf p (take i xs)) (p (getD xs i d)))
+
+  pub any-on : (xs : List A) (i : ℕ) (d : A) → i < length xs → anyOf p (take (i + 1) xs) ≡ (anyOf p (take i xs) || p (getD xs i d))
+  any-on xs i d h = rw (add-one i) (any-suc xs i d h)
+
+  pub any-all : (xs : List A) (i : ℕ) → i ≡ length xs → anyOf p (take i xs) ≡ anyOf p xs
+  any-all xs i e = rw (e, take-length xs)
 
 module _ {A : Type 0} (f : ℕ → A) where
   pub length-list-to : (n : ℕ) → length (listTo f n) ≡ n
@@ -25,3 +72,21 @@ module _ {A : Type 0} (f : ℕ → A) where
 
   pub fill-all : (xs : List A) → listTo f (length xs) ++ drop (length xs) xs ≡ listTo f (length xs)
   fill-all xs = rw (drop-length xs, append-nil)
+
+  pub list-to-at : (d : A) (n k : ℕ) → k < n → getD (listTo f n) k d ≡ f k
+  unfolding listTo
+  list-to-at d zero k h = absurd (not-suc-le-zero h)
+  list-to-at d (suc n) k h =
+      ⊎-elim
+      (λ (e : k ≡ n). rw e (ap (λ (m : ℕ). getD (listTo f n ++ (f n ∷ [])) m d) (sym (add-zero n) ∙ ap (λ (m : ℕ). m + 0) (sym (length-list-to n))) ∙ getD-append-add (listTo f n) (f n ∷ []) 0 d))
+      (λ (e : k < n). List·getD-append (listTo f n) (f n ∷ []) d k (subst (λ (m : ℕ). k < m) (sym (length-list-to n)) e) ∙ list-to-at d n k e)
+      (eq-or-lt-of-le (le-of-suc-le-suc h))
+
+  pub pad-start : (z : A) (cap : ℕ) → pad z cap (listTo f 0) ≡ replicate cap z
+  unfolding listTo pad
+  pad-start z cap = simp sub-zero
+
+  -- one entry more over the padding
+  pub pad-on : (z : A) (cap i : ℕ) → i < cap → set (pad z cap (listTo f i)) i (f i) ≡ pad z cap (listTo f (i + 1))
+  unfolding listTo
+  pad-on z cap i h = rw (add-one i) (pad-push z cap (listTo f i) (f i) i (length-list-to i) h)

@@ -1,8 +1,20 @@
 -- Words for lists. Definitions only.
+use mathlib.Core.Bool.{Bool, false, _||_}
 use mathlib.Core.List.{List, [], _∷_, _++_}
-use Prim.Native.Nat.{ℕ, zero, suc}
+use Prim.Native.Nat.{ℕ, zero, suc, _-_}
+use lib.ListN.{length, replicate}
 
--- f 0, f 1, up to f (n - 1)
-unfoldable pub listTo : {A : Type 0} → (ℕ → A) → ℕ → List A
-listTo f zero = []
-listTo f (suc n) = listTo f n ++ (f n ∷ [])
+module _ {A : Type 0} where
+  -- f 0, f 1, up to f (n - 1)
+  unfoldable pub listTo : (ℕ → A) → ℕ → List A
+  listTo f zero = []
+  listTo f (suc n) = listTo f n ++ (f n ∷ [])
+
+  -- a list in an array of `cap` entries: the rest is z
+  unfoldable pub pad : A → ℕ → List A → List A
+  pad z cap xs = xs ++ replicate (cap - length xs) z
+
+  -- p holds of some entry (the library's `any` does not unfold)
+  unfoldable pub anyOf : (A → Bool) → List A → Bool
+  anyOf p [] = false
+  anyOf p (x ∷ xs) = p x || anyOf p xs
