@@ -1,20 +1,19 @@
 -- A pick of n is below n, and picks, chances and coins make one draw each. Assumes nothing.
 use mathlib.Core.Path.{_≡_}
-use Prim.Native.Nat.{ℕ, _-_, _<_, min}
+use Prim.Native.Nat.{ℕ, _-_, _≤_, _<_}
 use native.Mathlib.Omega.{arith}
-use lib.Ieee.{Float, binary32, mul, ofBits, toUnsigned}
-use Rattle.laws.specs.Floats.{f32Of}
+use lib.Ieee.{Float, binary32, ofBits}
 use Rattle.streams.specs.Stream.{after}
 use Rattle.streams.specs.Draw.{pickedOf, pickOf, chanceOf, coinOf}
 use Rattle.streams.specs.declared.stream.NoiseStream.{NoiseStream}
 use Rattle.streams.proofs.StreamLaws.{unit-advances}
 
-capped : (a n : ℕ) → 0 < n → min a (n - 1) < n
-capped a n h = omega arith
+pub picked-le : (u : Float) (n : ℕ) → pickedOf u n ≤ n - 1
+unfolding pickedOf
+picked-le u n = omega arith
 
 pub picked-lt : (u : Float) (n : ℕ) → 0 < n → pickedOf u n < n
-unfolding pickedOf
-picked-lt u n h = capped (toUnsigned 64 (mul binary32 u (f32Of n))) n h
+picked-lt u n h = omega (arith, picked-le u n)
 
 pub picked-none : (u : Float) → pickedOf u 0 ≡ 0
 unfolding pickedOf

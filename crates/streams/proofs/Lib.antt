@@ -1,4 +1,5 @@
 pub mod MixLaws
 pub mod StreamLaws
+pub mod StageLaws
 pub mod DrawLaws
 pub mod Cases

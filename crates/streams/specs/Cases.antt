@@ -1,4 +1,4 @@
--- Document 01's checked cases, as the rows of one table. Definitions only.
+-- Document 01's checked cases of the draws, as the first rows of its table. Definitions only.
 use mathlib.Core.List.{List, [], _∷_}
 use Prim.Native.Nat.{ℕ}
 use Rattle.streams.specs.Mix.{splitmix64Of}
@@ -14,8 +14,8 @@ pub record Case : Type 0 where
 abbrev pub case : ℕ → List ℕ → List ℕ → Case
 case n g w = record { number = n; given = g; wanted = w }
 
-abbrev pub checkedCases : List Case
-checkedCases =
+abbrev pub drawCases : List Case
+drawCases =
     case 1 (splitmix64Of 0 ∷ []) (0 ∷ [])
     ∷ case 2 (pickedOf (unitBy 13981013) 12 ∷ []) (10 ∷ [])
     ∷ case 3 (pickedOf (unitBy 16777215) 12 ∷ []) (11 ∷ [])

@@ -1,5 +1,6 @@
 // What a stage draws: one of n, or yes with a given chance.
 ghost use mathlib.Core.Path.{_≡_};
+ghost use Prim.Native.Nat.{_^_, _≤_};
 ghost use Rattle.streams.specs.Draw.{pickedOf, pickOf, chanceOf, coinOf};
 use crate::float::truncated;
 use crate::stream::NoiseStream;
@@ -16,17 +17,25 @@ pub struct ChanceDraw {
 
 // Which of n parts of equal width the unit u falls in: u * n rounded, truncated, at most n - 1;
 // 0 where n is 0.
-pub fn picked(u: f32, n: u8) -> u8
+pub fn part(u: f32, n: u32) -> u32
+    requires { ⌜ n ≤ 2 ^ 24 ⌝ }
     ensures { λ r. ⌜ r ≡ pickedOf u n ⌝ }
 {
     let t = truncated(u * (n as f32));
     if t < n as u64 {
-        t as u8
+        t as u32
     } else if n == 0 {
         0
     } else {
         n - 1
     }
+}
+
+// A pick of n by a unit in hand.
+pub fn picked(u: f32, n: u8) -> u8
+    ensures { λ r. ⌜ r ≡ pickedOf u n ⌝ }
+{
+    part(u, n as u32) as u8
 }
 
 // One of n, from one draw.

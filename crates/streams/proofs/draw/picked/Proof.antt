@@ -1,46 +1,18 @@
--- The truncated product is the definition's, and the branches are its cap. Assumes nothing.
-use mathlib.Core.Path.{_≡_, ap}
-use Prim.Native.Nat.{ℕ, _-_, min}
+-- The part is below n, so it is a byte. Assumes nothing.
 use native.Mathlib.Omega.{arith}
-use Rattle.streams.specs.Draw.{pickedOf}
 use borrow.Author.Needs.{needs}
+use Rattle.streams.proofs.DrawLaws.{picked-le}
 use Rattle.streams.proofs.draw.picked.Statement.{statement}
 use Rattle.streams.proofs.draw.picked.Tie as tie
 
--- the pick, by the truncated product
-capped : (a : tie.After-truncated) → min (a .truncated .result) (a .before .before .args .n - 1) ≡ pickedOf (a .before .before .args .u) (a .before .before .args .n)
-unfolding pickedOf
-capped a = ap (λ (t : ℕ). min t (a .before .before .args .n - 1)) (a .truncated .ensures)
-
-int-to-float-truncated : tie.Need-int-to-float-truncated
-int-to-float-truncated c = search needs
-
-truncated-requires : tie.Need-truncated-requires
-truncated-requires c κs = search needs
+part-requires : tie.Need-part-requires
+part-requires c κs = search needs
 
 cast-result : tie.Need-cast-result
-cast-result c = search needs
-
-sub-result : tie.Need-sub-result
-sub-result c = search needs
+cast-result c = omega (arith, c .part .ensures, picked-le (c .before .args .u) (c .before .args .n))
 
 returns : tie.Need-returns
-returns c = omega (arith, capped (c .before))
-
-returns-2 : tie.Need-returns-2
-returns-2 c = omega (arith, capped (c .before .before))
-
-returns-3 : tie.Need-returns-3
-returns-3 c = omega (arith, capped (c .before .before))
+returns c = c .part .ensures
 
 pub picked-spec : {M : Type 1} → statement M
-picked-spec =
-    tie.close
-    (tie.spec
-    int-to-float-truncated
-    truncated-requires
-    cast-result
-    sub-result
-    returns
-    returns-2
-    returns-3)
+picked-spec = tie.close (tie.spec part-requires cast-result returns)
