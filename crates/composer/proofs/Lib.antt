@@ -1,0 +1,2 @@
+pub mod BandLaws
+pub mod Cases

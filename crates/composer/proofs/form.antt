@@ -1,0 +1,9 @@
+pub mod Arranged
+pub mod AskLaws
+pub mod Beatless
+pub mod BodyLaws
+pub mod DecisionsLaws
+pub mod EndsLaws
+pub mod PromiseLaws
+pub mod SongLaws
+pub mod SpansLaws

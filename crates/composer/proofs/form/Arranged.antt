@@ -1,0 +1,82 @@
+-- The form of every seed keeps its promise: the body's bars are those of the decisions, and no look-up is refused. Assumes nothing.
+use mathlib.Core.Path.{_≡_, refl, ap, _∙_}
+use mathlib.Core.Bool.{Bool, true, false, not, _&&_, and-false}
+use Prim.Native.Nat.{ℕ, _+_, _-_, _*_, _/_, _<_}
+use native.Mathlib.Omega.{arith}
+use borrow.Author.Tests.{eq-eqb, ne-eqb}
+use lib.Dec.{leb, eqb}
+use lib.ListN.{getD}
+use Rattle.composer.specs.Refusal.{Gives}
+use Rattle.composer.specs.Form.{introBarsOf}
+use Rattle.composer.specs.Form.Plays.{silent}
+use Rattle.composer.specs.Form.Body.{isBreak, wholeBreak, cutAt, cutHeard, bodyBarOf}
+use Rattle.composer.specs.Form.Song.{introOf, outroOf, introLength, formOf, decisionsOf, arrangeOf}
+use Rattle.composer.specs.Form.Promise.{BodyPromise, playsAt, bodyStrikes, FormPromise}
+use Rattle.composer.specs.declared.form.Form.{Form}
+use Rattle.composer.specs.declared.form.plays.Plays.{Plays}
+use Rattle.composer.specs.declared.form.decisions.Decisions.{Decisions}
+use Rattle.composer.proofs.form.AskLaws.{plays-found}
+use Rattle.composer.proofs.form.BodyLaws.{body-promise}
+use Rattle.composer.proofs.form.DecisionsLaws.{decide-counter}
+use Rattle.composer.proofs.form.EndsLaws.{end-bars-is, outro-length-is}
+use Rattle.composer.proofs.form.PromiseLaws.{promise-more}
+use Rattle.composer.proofs.form.SongLaws.{drawn-phrases-least, drawn-phrases-most, drawn-cuts-short, body-bar, arranged-sound, arranged-bars}
+
+-- ---- a cut never stands just before a whole break
+pub no-cut-before-break : (d : Decisions) (p : ℕ) → wholeBreak d ≡ true → p + 1 ≡ d .phrases / 2 → cutHeard d p ≡ false
+unfolding cutHeard
+no-cut-before-break d p whole e =
+    rw (eq-eqb (p + 1) (d .phrases / 2) e, whole, and-false (not (eqb p (d .phrases / 2))), and-false (leb 1 p && leb (p + 2) (d .phrases)), and-false (d .cutting && cutAt d p .on))
+
+bar-before-break : (d : Decisions) (b : ℕ) → wholeBreak d ≡ true → b / 8 + 1 ≡ d .phrases / 2 → bodyBarOf d b .drums ≡ true
+unfolding bodyBarOf
+bar-before-break d b whole e =
+    let other : eqb (b / 8) (d .phrases / 2) ≡ false = ne-eqb (b / 8) (d .phrases / 2) (omega arith) in
+    rw (other, no-cut-before-break d (b / 8) whole e, and-false (isBreak (d .thinning)))
+
+dip-dropped : (d : Decisions) → cutHeard d 1 ≡ true → formOf d .dip ≡ false
+unfolding formOf
+dip-dropped d e = rw (e, and-false (d .dip))
+
+-- ---- the bars of an arranged form
+module _ (seed : ℕ) where
+  abbrev f : Form
+  f = arrangeOf seed
+
+  abbrev d : Decisions
+  d = decisionsOf seed
+
+  found-at : (b : ℕ) → b < f .bars → playsAt f b ≡ Gives (getD (f .plays) b silent)
+  found-at = plays-found f (arranged-sound seed)
+
+  body-at : (b : ℕ) → b < 8 * d .phrases → playsAt f (introBarsOf f + b) ≡ Gives (bodyBarOf d b)
+  unfolding formOf
+  body-at b h = found-at (introLength d + b) (omega arith) ∙ ap (λ (p : Plays). Gives p) (body-bar d b h)
+
+  strikes-at : (layer : Plays → Bool) (b : ℕ) → b < 8 * d .phrases → layer (bodyBarOf d b) ≡ true → bodyStrikes f layer b ≡ true
+  strikes-at layer b h e = rw (body-at b h) e
+
+  body : BodyPromise (d .phrases) (bodyStrikes f (λ p. p .pad)) (bodyStrikes f (λ p. p .drums)) (bodyStrikes f (λ p. p .bass))
+  body =
+      promise-more (d .phrases) (λ b. bodyBarOf d b .pad) (λ b. bodyBarOf d b .drums) (λ b. bodyBarOf d b .bass) (bodyStrikes f (λ p. p .pad)) (bodyStrikes f (λ p. p .drums))
+      (bodyStrikes f (λ p. p .bass)) (strikes-at (λ p. p .pad)) (strikes-at (λ p. p .drums)) (strikes-at (λ p. p .bass))
+      (body-promise d (drawn-cuts-short seed) (drawn-phrases-most seed) (drawn-phrases-least seed))
+
+  pub arranged-promise : FormPromise seed (arrangeOf seed)
+  unfolding formOf
+  arranged-promise =
+      let P = d .phrases in
+      let least = drawn-phrases-least seed in
+      let most = drawn-phrases-most seed in
+      record {
+        draws = decide-counter seed;
+        phrases = (least, most);
+        «intro-bars» = end-bars-is (introOf (d .opening) (d .«long_intro»));
+        «outro-bars» = outro-length-is (outroOf (d .closing) (d .«long_outro»));
+        «song-bars» = refl;
+        most = arranged-bars seed;
+        found = λ b h. (getD (f .plays) b silent, found-at b h);
+        body = body;
+        «before-break» = λ whole. strikes-at (λ p. p .drums) (8 * (P / 2) - 1) (omega arith) (bar-before-break d (8 * (P / 2) - 1) whole (omega arith));
+        dip = dip-dropped d;
+      }

@@ -1,0 +1,4 @@
+pub mod Band
+pub mod Cases
+pub mod Form
+pub mod Refusal

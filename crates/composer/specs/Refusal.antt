@@ -1,0 +1,17 @@
+-- Document 01's numbers of refusals, and what an answer then is: a value, or a number alone. Definitions only.
+use Prim.Native.Nat.{ℕ}
+use Rattle.composer.specs.declared.refusal.Refusal.{Refusal}
+use Rattle.composer.specs.declared.refusal.Outcome.{Outcome}
+
+abbrev pub numberOf : Refusal → ℕ
+numberOf Refusal.NoSuchBar = 3
+numberOf Refusal.Malformed = 4
+
+pub data Answer (A : Type 0) : Type 0 where
+  Gives : A → Answer A
+  Refuses : ℕ → Answer A
+
+-- the answer of a call whose outcome stands beside its value
+abbrev pub answerBy : {A : Type 0} → Outcome → A → Answer A
+answerBy Outcome.Done x = Gives x
+answerBy (Outcome.Refused r) x = Refuses (numberOf r)

@@ -1,0 +1,26 @@
+// Why a call refuses.
+ghost use mathlib.Core.Path.{_≡_};
+ghost use Rattle.composer.specs.Refusal.{numberOf};
+
+pub enum Refusal {
+    NoSuchBar,
+    Malformed,
+}
+
+impl Refusal {
+    // Its number.
+    pub fn number(self) -> u8
+        ensures { λ r. ⌜ r ≡ numberOf self ⌝ }
+    {
+        match self {
+            Refusal::NoSuchBar => 3,
+            Refusal::Malformed => 4,
+        }
+    }
+}
+
+// How a call went whose value stands beside this: an enum can't hold an array.
+pub enum Outcome {
+    Done,
+    Refused(Refusal),
+}
