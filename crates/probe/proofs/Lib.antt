@@ -1,1 +1,2 @@
 pub mod DrawsLaws
+pub mod FormsLaws

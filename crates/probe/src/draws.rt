@@ -1,6 +1,7 @@
 // Runs of draws of one kind, from a stream with any seed and counter, over the whole of `out`. Each
 // answers the counter that its stream is left with.
 ghost use mathlib.Core.Path.{_≡_};
+ghost use Prim.Native.Nat.{_≤_};
 ghost use Rattle.probe.specs.Draws.{streamAt, unitWordOf, pickWordOf, flagOf, chanceWordOf, drawnOf, Ran};
 ghost use Rattle.probe.specs.declared.draws.Kind.{Kind};
 use streams::draw::ChanceDraw;
@@ -44,13 +45,14 @@ fn pick_word(d: PickDraw) -> WordDraw
     }
 }
 
-fn flag(b: bool) -> u64
+// 1 for yes.
+pub fn flag(b: bool) -> u64
     ensures { λ r. ⌜ r ≡ flagOf b ⌝ }
+    ensures { λ r. ⌜ r ≤ 1 ⌝ }
 {
     if b { 1 } else { 0 }
 }
 
-// 1 for yes.
 fn chance_word(d: ChanceDraw) -> WordDraw
     ensures { λ r. ⌜ r ≡ chanceWordOf d ⌝ }
 {

@@ -3,6 +3,8 @@ use probe::draws::probe_coins;
 use probe::draws::probe_picks;
 use probe::draws::probe_units;
 use probe::draws::probe_words;
+use probe::forms::probe_beatless;
+use probe::forms::probe_form;
 use probe::stages::probe_stage_seed;
 
 fn stage_seed(seed: u64, stage: u64) -> u64 {
@@ -43,6 +45,8 @@ pub fn answer(what: u8, a: u64, b: u64) -> u64 {
         b'U' => unit(a, b),
         b'P' => pick(a, b),
         b'C' => coin(a),
+        b'F' => probe_form(a, (b % 256) as u8),
+        b'B' => probe_beatless(a, (b % 256) as u8),
         _ => u64::MAX,
     }
 }

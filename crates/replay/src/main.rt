@@ -77,5 +77,6 @@ fn replay(name: &[u8]) {
 fn main() {
     replay(b"published");
     replay(b"draws");
+    replay(b"forms");
     replay(b"wrong");
 }

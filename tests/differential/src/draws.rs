@@ -4,6 +4,7 @@ use crate::compose::reach::{STAGES, chance, coin, pick};
 use crate::dsp::reach::{counter_of, next_u64, seed_of, stream};
 use crate::ours;
 use crate::tally::{Run, Tally};
+use std::ops::RangeInclusive;
 
 /// How many draws of each stage's stream are compared.
 const DRAWS: usize = 300;
@@ -107,8 +108,11 @@ fn compare_truncation(tally: &mut Tally) {
     }
 }
 
+/// SplitMix64's step from one draw to the next.
+pub const GAMMA: u64 = 0x9e37_79b9_7f4a_7c15;
+
 /// The inverse of `dsp.rs`'s mixer: what it mixes to `z`.
-fn unmixed(z: u64) -> u64 {
+pub fn unmixed(z: u64) -> u64 {
     let unshifted = |z: u64, k: u32| (0..64 / k).fold(z, |x, _| z ^ (x >> k));
     // Newton's step doubles the right low bits of an odd number's inverse
     let inverse = |m: u64| {
@@ -123,7 +127,13 @@ fn unmixed(z: u64) -> u64 {
 
 /// A stream whose first draw has the top 24 bits `k`.
 pub fn stream_with(k: u64) -> u64 {
-    unmixed(k << 40).wrapping_sub(0x9e37_79b9_7f4a_7c15)
+    unmixed(k << 40).wrapping_sub(GAMMA)
+}
+
+/// The draws within two steps of the end of one of the unit's equal parts, by their top 24 bits.
+pub fn around(part: u64, parts: u64) -> RangeInclusive<u64> {
+    let edge = (part << 24) / parts.max(1);
+    edge.saturating_sub(2)..=(edge + 2).min((1 << 24) - 1)
 }
 
 /// Inputs at the limits: the counter where it wraps, floats of every size, stages that are none, buffers
@@ -153,8 +163,7 @@ pub fn compare_edges(tally: &mut Tally) {
     }
     for n in 0..=255u8 {
         for part in 0..=u64::from(n) {
-            let edge = (part << 24) / u64::from(n).max(1);
-            for k in edge.saturating_sub(2)..=(edge + 2).min((1 << 24) - 1) {
+            for k in around(part, n.into()) {
                 let seed = stream_with(k);
                 assert_eq!(
                     next_u64(&mut stream(seed, 0)) >> 40,

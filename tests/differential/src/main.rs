@@ -14,8 +14,11 @@ mod style;
 mod synth;
 
 mod draws;
+mod forms;
+mod made;
 mod ours;
 mod record;
+mod sample;
 mod tally;
 
 use tally::Tally;
@@ -30,7 +33,12 @@ fn seed_of(i: u64) -> u64 {
 fn compare(from: u64, to: u64) -> Tally {
     let mut tally = Tally::default();
     for i in from..to {
-        draws::compare_seed(&mut tally, seed_of(i));
+        let seed = seed_of(i);
+        draws::compare_seed(&mut tally, seed);
+        forms::compare_seed(&mut tally, seed);
+        if i % 15 == 0 {
+            made::compare_seed(&mut tally, seed);
+        }
     }
     tally
 }
@@ -59,6 +67,8 @@ fn main() {
     let (count, start) = (number(words.first(), 100_000), number(words.get(1), 0));
     let mut edges = Tally::default();
     draws::compare_edges(&mut edges);
+    forms::compare_edges(&mut edges);
+    made::compare_edges(&mut edges);
     let values = edges.compared + compare_all(start, count);
     println!("{count} seeds from {start}: {values} values compared, no difference");
 }

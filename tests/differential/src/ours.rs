@@ -1,6 +1,8 @@
 //! The exported functions of crate `probe`, behind safe wrappers. A slice passes as a pointer and a
 //! length; no function asks more of its caller.
 
+use crate::made::Parts;
+
 mod raw {
     unsafe extern "C" {
         pub fn probe_words(seed: u64, counter: u64, out: *mut u64, len: usize) -> u64;
@@ -10,6 +12,27 @@ mod raw {
         pub fn probe_coins(seed: u64, counter: u64, out: *mut u64, len: usize) -> u64;
         pub fn probe_truncated(x: f32) -> u64;
         pub fn probe_stage_seed(stage: u8, seed: u64, out: *mut u64, len: usize) -> i64;
+        pub fn probe_form(seed: u64, k: u8) -> u64;
+        pub fn probe_beatless(seed: u64, k: u8) -> u64;
+        pub fn probe_form_counter(seed: u64) -> u64;
+        pub fn probe_made_plays(
+            seed: u64,
+            intro: u8,
+            phrases: u8,
+            outro: u8,
+            bars: u8,
+            bar: u64,
+        ) -> i64;
+        pub fn probe_made_beatless(
+            seed: u64,
+            intro: u8,
+            phrases: u8,
+            outro: u8,
+            dip: bool,
+            bars: u8,
+            k: u8,
+        ) -> u64;
+        pub fn probe_spans(seeds: *const u64, len: usize) -> u8;
     }
 }
 
@@ -39,4 +62,40 @@ pub fn stage_seed(stage: u8, seed: u64, out: &mut [u64]) -> i64 {
 
 pub fn truncated(x: f32) -> u64 {
     unsafe { raw::probe_truncated(x) }
+}
+
+pub fn form(seed: u64, k: u8) -> u64 {
+    unsafe { raw::probe_form(seed, k) }
+}
+
+pub fn beatless(seed: u64, k: u8) -> u64 {
+    unsafe { raw::probe_beatless(seed, k) }
+}
+
+pub fn form_counter(seed: u64) -> u64 {
+    unsafe { raw::probe_form_counter(seed) }
+}
+
+pub fn made_plays(seed: u64, parts: Parts, bars: u8, bar: u64) -> i64 {
+    let Parts {
+        intro,
+        phrases,
+        outro,
+        ..
+    } = parts;
+    unsafe { raw::probe_made_plays(seed, intro, phrases, outro, bars, bar) }
+}
+
+pub fn made_beatless(seed: u64, parts: Parts, bars: u8, k: u8) -> u64 {
+    let Parts {
+        intro,
+        phrases,
+        outro,
+        dip,
+    } = parts;
+    unsafe { raw::probe_made_beatless(seed, intro, phrases, outro, dip, bars, k) }
+}
+
+pub fn spans(seeds: &[u64]) -> u8 {
+    unsafe { raw::probe_spans(seeds.as_ptr(), seeds.len()) }
 }

@@ -1,9 +1,12 @@
 //! Writes a sample of the Rust's answers, which crate `replay` runs with no Rust at hand. A line is a
 //! letter and three words of 16 hexadecimal digits: what is asked, two arguments, the answer.
 
+use crate::compose::arrange;
 use crate::compose::reach::{STAGES, coin, pick};
 use crate::draws::stream_with;
 use crate::dsp::reach::{next_u64, seed_of, stream};
+use crate::forms::words_of;
+use crate::sample;
 
 /// What is asked, its two arguments, the answer.
 type Line = (char, u64, u64, u64);
@@ -35,14 +38,35 @@ fn pick_lines(lines: &mut Vec<Line>) {
     }
 }
 
-pub fn write(folder: &str) {
-    let mut lines = Vec::new();
-    for i in 0..16 {
-        stage_lines(&mut lines, crate::seed_of(i));
+/// F, B: word b of the form of the song seed a, as drawn and beatless. B's word 5, its refusal, is 0:
+/// the Rust refuses nothing here.
+fn form_lines(lines: &mut Vec<Line>, seed: u64) {
+    let form = arrange(seed);
+    for (k, word) in (0..).zip(words_of(&form)) {
+        lines.push(('F', seed, k, word));
     }
-    pick_lines(&mut lines);
+    for (k, word) in (0..).zip(words_of(&form.beatless()).into_iter().chain([0])) {
+        lines.push(('B', seed, k, word));
+    }
+}
+
+fn write_lines(folder: &str, name: &str, lines: &[Line]) {
     let text: String = (lines.iter())
         .map(|(what, a, b, answer)| format!("{what} {a:016x} {b:016x} {answer:016x}\n"))
         .collect();
-    std::fs::write(format!("{folder}/draws"), text).expect("the folder can be written to");
+    std::fs::write(format!("{folder}/{name}"), text).expect("the folder can be written to");
+}
+
+pub fn write(folder: &str) {
+    let mut draws = Vec::new();
+    for i in 0..16 {
+        stage_lines(&mut draws, crate::seed_of(i));
+    }
+    pick_lines(&mut draws);
+    write_lines(folder, "draws", &draws);
+    let mut forms = Vec::new();
+    for seed in sample::seeds() {
+        form_lines(&mut forms, seed);
+    }
+    write_lines(folder, "forms", &forms);
 }

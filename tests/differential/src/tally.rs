@@ -18,6 +18,8 @@ impl Tally {
     pub fn same<T: PartialEq + Debug>(&mut self, input: impl FnOnce() -> String, rust: T, ours: T) {
         self.compared += 1;
         if rust != ours {
+            // the lock is kept to the end, so that the other thread adds no half a line
+            let _lock = std::io::stdout().lock();
             println!("{}: the Rust has {rust:?}, ours has {ours:?}", input());
             std::process::exit(1);
         }

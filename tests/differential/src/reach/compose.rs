@@ -1,6 +1,7 @@
 //! The private parts of compose.rs that the driver asks for.
 
 use super::Stage;
+pub(crate) use super::form::reach as form;
 use crate::dsp::NoiseStream;
 
 /// The stages in the order of their numbers.

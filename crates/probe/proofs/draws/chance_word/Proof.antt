@@ -7,7 +7,7 @@ flag-requires : tie.Need-flag-requires
 flag-requires c κs = search needs
 
 returns : tie.Need-returns
-returns c = rw (c .before .flag .ensures)
+returns c = rw (c .before .flag .ensures .0)
 
 pub chance-word-spec : {M : Type 1} → statement M
 chance-word-spec = tie.close (tie.spec flag-requires returns)
