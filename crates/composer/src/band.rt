@@ -39,7 +39,7 @@ fn row_at(weights: &[u16], at: u32) -> usize
 }
 
 // The band that the unit u falls in, each band as wide as its weight.
-pub fn band(u: f32, weights: &[u16]) -> usize
+pub(crate) fn band(u: f32, weights: &[u16]) -> usize
     requires { ⌜ (1 ≤ length (now weights)) × (length (now weights) ≤ 256) ⌝ }
     ensures { λ r. ⌜ r ≡ bandOf u (now (weights .entry)) ⌝ }
 {

@@ -20,7 +20,7 @@ pub struct FormAnswer {
 }
 
 // Whether the parts are the form's bars, and at most 64.
-pub fn is_sound(f: Form) -> bool
+fn is_sound(f: Form) -> bool
     ensures { λ r. ⌜ r ≡ soundOf f ⌝ }
 {
     let intro = f.intro_bars() as u16;

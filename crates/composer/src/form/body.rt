@@ -29,7 +29,7 @@ fn takes_bass(t: Thinning, low: bool) -> bool
 
 // Whether phrase p's cut is drawn and stands: it cuts only into a phrase that opens on the beat, and
 // never into the outro.
-pub fn cut_heard(d: Decisions, p: u8) -> bool
+pub(crate) fn cut_heard(d: Decisions, p: u8) -> bool
     requires { ⌜ p < 6 ⌝ }
     ensures { λ r. ⌜ r ≡ cutHeard d p ⌝ }
 {
@@ -42,7 +42,7 @@ pub fn cut_heard(d: Decisions, p: u8) -> bool
 }
 
 // The layers that strike in body bar b.
-pub fn body_bar(d: Decisions, b: u8) -> Plays
+pub(crate) fn body_bar(d: Decisions, b: u8) -> Plays
     requires { ⌜ b < 48 ⌝ }
     ensures { λ r. ⌜ r ≡ bodyBarOf d b ⌝ }
 {

@@ -41,7 +41,7 @@ fn mutes_any(plays: [Plays; 64], n: u8) -> bool
 }
 
 // Whether the form fades, filters or dips somewhere.
-pub fn edged(f: Form) -> bool
+fn edged(f: Form) -> bool
     ensures { λ r. ⌜ r ≡ edgedOf f ⌝ }
 {
     let intro = f.intro;
