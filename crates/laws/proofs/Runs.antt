@@ -7,6 +7,7 @@ use native.Mathlib.Nat.{le-of-suc-le-suc, not-suc-le-zero, eq-or-lt-of-le, eq-ze
 use native.Mathlib.Omega.{arith}
 use lib.Dec.{T}
 use mir.Facts.{and-yes, or-yes}
+use Rattle.laws.proofs.Bools.{holds}
 use Rattle.laws.specs.Runs.{Among, RunsAtMost, lacking}
 
 -- ---- tests
@@ -21,10 +22,6 @@ every (suc n) has = has n && every n has
 -- any n running of the first `size` places include one that has it
 abbrev pub windows : ℕ → (ℕ → Bool) → ℕ → Bool
 windows n has size = every (size + 1 - n) (λ b. someFrom b n has)
-
-holds : (a : Bool) → T a → a ≡ true
-holds true t = refl
-holds false t = absurd t
 
 pub every-at : (n : ℕ) (has : ℕ → Bool) → T (every n has) → (k : ℕ) → k < n → T (has k)
 every-at zero has t k h = absurd (not-suc-le-zero h)

@@ -1,8 +1,8 @@
 -- Words for lists. Definitions only.
 use mathlib.Core.Bool.{Bool, false, _||_}
 use mathlib.Core.List.{List, [], _∷_, _++_}
-use Prim.Native.Nat.{ℕ, zero, suc, _-_}
-use lib.ListN.{length, replicate}
+use Prim.Native.Nat.{ℕ, zero, suc, _+_, _-_}
+use lib.ListN.{length, replicate, take, drop}
 
 module _ {A : Type 0} where
   -- f 0, f 1, up to f (n - 1)
@@ -13,6 +13,10 @@ module _ {A : Type 0} where
   -- a list in an array of `cap` entries: the rest is z
   unfoldable pub pad : A → ℕ → List A → List A
   pad z cap xs = xs ++ replicate (cap - length xs) z
+
+  -- vs in place of what stood from `at` on
+  unfoldable pub splice : List A → ℕ → List A → List A
+  splice xs at vs = take at xs ++ (vs ++ drop (at + length vs) xs)
 
   -- p holds of some entry (the library's `any` does not unfold)
   unfoldable pub anyOf : (A → Bool) → List A → Bool

@@ -8,6 +8,7 @@ use lib.Dec.{T, leb, eqb, leb→le, le→leb}
 use lib.ListN.{replicate, getD-replicate}
 use mir.Facts.{and-yes}
 use Rattle.laws.specs.Runs.{lacking}
+use Rattle.laws.proofs.Bools.{or-map, contra}
 use Rattle.laws.proofs.Runs.{every, every-at, windows, windows-among, runs-at-most}
 use Rattle.composer.specs.Form.Body.{isBreak, lowThinning, thins, noCut, cutAt, mayCut, cutHeard, cutTakes, lateDrop, drumsOut, bassOut, bodyBarOf}
 use Rattle.composer.specs.Form.Promise.{BodyPromise}
@@ -93,17 +94,6 @@ worst-promise t whole low P l m =
     }
 
 -- ---- each body mutes a part of the worst
-or-map : (a b a′ b′ : Bool) → (T a → T a′) → (T b → T b′) → T (a || b) → T (a′ || b′)
-or-map true b true b′ i j u = tt
-or-map true b false b′ i j u = absurd (i tt)
-or-map false b true b′ i j u = tt
-or-map false b false b′ i j u = j u
-
-contra : (x y : Bool) → (T x → T y) → not y ≡ true → not x ≡ true
-contra true true i h = h
-contra true false i h = absurd (i tt)
-contra false y i h = refl
-
 cut-part : (c on may long long′ : Bool) → (T long → T long′) → T (((c && on) && may) && long) → T (may && long′)
 cut-part true true true long long′ i u = i u
 cut-part true true false long long′ i u = u

@@ -3,7 +3,6 @@ use mathlib.Core.Path.{_≡_, refl, ap, _∙_}
 use mathlib.Core.List.{[], _∷_}
 use Prim.Native.Nat.{ℕ, zero, suc, _+_, _%_, _^_, _≤_}
 use native.Mathlib.Omega.{arith}
-use lib.ListN.{getD}
 use lib.Ieee.{Float}
 use Rattle.laws.specs.Lists.{listTo}
 use Rattle.streams.specs.Stream.{unitAt}
@@ -13,7 +12,7 @@ use Rattle.streams.specs.declared.stream.NoiseStream.{NoiseStream}
 use Rattle.streams.proofs.StreamLaws.{after-counter}
 use Rattle.streams.proofs.StageLaws.{stream-counter}
 use Rattle.streams.proofs.DrawLaws.{picked-le}
-use Rattle.composer.specs.Form.Body.{noCut}
+use Rattle.composer.specs.Form.Body.{cutAt}
 use Rattle.composer.specs.Form.Decisions.{cutOf, cutsBy, decisionsBy, decideOf, unitFrom, listed}
 use Rattle.composer.proofs.BandLaws.{band-le}
 
@@ -31,7 +30,7 @@ unfolding cutOf
 cut-short u v w = omega (arith, band-le v 55 (20 ∷ 25 ∷ []))
 
 -- no cut is longer than three bars
-pub cuts-short : (draw : ℕ → Float) (p : ℕ) → getD (decisionsBy draw .cuts) p noCut .bars ≤ 3
+pub cuts-short : (draw : ℕ → Float) (p : ℕ) → cutAt (decisionsBy draw) p .bars ≤ 3
 unfolding decisionsBy cutsBy
 cuts-short draw zero = cut-short (draw 8) (draw 9) (draw 10)
 cuts-short draw (suc zero) = cut-short (draw 11) (draw 12) (draw 13)

@@ -1,9 +1,10 @@
 -- What may be asked of a form, also of one that arrange did not make. Definitions only.
 use mathlib.Core.Bool.{Bool, false, _&&_, cond}
-use mathlib.Core.List.{List, _++_}
-use Prim.Native.Nat.{ℕ, _+_}
+use mathlib.Core.List.{List}
+use Prim.Native.Nat.{ℕ}
 use lib.Dec.{leb, eqb}
-use lib.ListN.{getD, take, drop, replicate}
+use lib.ListN.{getD, replicate}
+use Rattle.laws.specs.Lists.{splice}
 use Rattle.composer.specs.Refusal.{numberOf, Answer, Gives, Refuses, answerBy}
 use Rattle.composer.specs.Form.{introBarsOf, bodyBarsOf, partsOf}
 use Rattle.composer.specs.Form.Plays.{all, silent}
@@ -31,8 +32,8 @@ playsAnswered (PlaysAnswer.Refused r) = Refuses (numberOf r)
 
 -- ---- without a beat
 -- the n bars from a on play all
-unfoldable pub filled : List Plays → ℕ → ℕ → List Plays
-filled ps a n = take a ps ++ (replicate n all ++ drop (a + n) ps)
+abbrev pub filled : List Plays → ℕ → ℕ → List Plays
+filled ps a n = splice ps a (replicate n all)
 
 unfoldable pub beatlessForm : Form → Form
 beatlessForm f = record {

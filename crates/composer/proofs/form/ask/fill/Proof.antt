@@ -4,10 +4,11 @@ use mathlib.Core.List.{List}
 use Prim.Native.Nat.{_+_, _-_, _≤_}
 use native.Mathlib.Omega.{arith}
 use lib.ListN.{set}
+use Rattle.laws.proofs.Splices.{splice-none}
 use Rattle.composer.specs.Form.Plays.{all}
 use Rattle.composer.specs.Form.Ask.{filled}
 use Rattle.composer.specs.declared.form.plays.Plays.{Plays}
-use Rattle.composer.proofs.form.AskLaws.{fill-step, fill-none}
+use Rattle.composer.proofs.form.AskLaws.{fill-step}
 use borrow.Author.Needs.{needs}
 use Rattle.composer.proofs.form.ask.fill.Statement.{statement}
 use Rattle.composer.proofs.form.ask.fill.Tie as tie
@@ -19,7 +20,7 @@ abbrev μ-loop : tie.MeasureT-loop
 μ-loop a n out₀ i₀ out i = n - i
 
 loop-holds : tie.Need-loop-holds Inv-loop μ-loop
-loop-holds c = (omega arith, sym (fill-none (c .args .plays) (c .args .a)))
+loop-holds c = (omega arith, sym (splice-none (c .args .plays) (c .args .a)))
 
 add-out : tie.Need-add-out Inv-loop μ-loop
 add-out c = search needs

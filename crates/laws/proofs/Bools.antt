@@ -1,0 +1,19 @@
+-- Tests that follow from one another. Assumes nothing.
+use mathlib.Core.Path.{_≡_, refl}
+use mathlib.Core.Bool.{Bool, true, false, not, _||_}
+use lib.Dec.{T}
+
+pub holds : (a : Bool) → T a → a ≡ true
+holds true t = refl
+holds false t = absurd t
+
+pub or-map : (a b a′ b′ : Bool) → (T a → T a′) → (T b → T b′) → T (a || b) → T (a′ || b′)
+or-map true b true b′ i j u = tt
+or-map true b false b′ i j u = absurd (i tt)
+or-map false b true b′ i j u = tt
+or-map false b false b′ i j u = j u
+
+pub contra : (x y : Bool) → (T x → T y) → not y ≡ true → not x ≡ true
+contra true true i h = h
+contra true false i h = absurd (i tt)
+contra false y i h = refl
