@@ -22,7 +22,7 @@ pub whole-value : (n : ℕ) → n ≤ 2 ^ 24 → HasValue (f32Of n) false n 1
 unfolding ofInt
 whole-value n h = round-whole binary32 false n h
 
-nonneg-of-value : (x : Float) (a c : ℕ) → HasValue x false a c → T (nonneg x)
+pub nonneg-of-value : (x : Float) (a c : ℕ) → HasValue x false a c → T (nonneg x)
 nonneg-of-value nan a c h = absurd h
 nonneg-of-value (inf s) a c h = absurd h
 nonneg-of-value (fin true m e) a c h = absurd (true≢false (h .0))

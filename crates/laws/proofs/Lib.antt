@@ -5,3 +5,6 @@ pub mod Bools
 pub mod Lists
 pub mod Splices
 pub mod Runs
+pub mod Lanes
+pub mod Bounds
+pub mod Rounding

@@ -3,14 +3,16 @@
 use mathlib.Core.Path.{_≡_, refl, sym, ap, _∙_, subst}
 use mathlib.Core.Bool.{Bool, false, _||_, or-false, or-assoc}
 use mathlib.Core.Logic.{⊎-elim}
-use mathlib.Core.List.{List, [], _∷_, _++_, append-assoc, append-nil}
+use mathlib.Core.List.{List, [], _∷_, _++_, map, append-assoc, append-nil, map-append}
 use Prim.Native.Nat.{ℕ, zero, suc, _+_, _-_, _<_, _≤_}
 use native.Mathlib.Numerals.{add-one}
 use native.Mathlib.Nat.{not-suc-le-zero, le-of-suc-le-suc, eq-or-lt-of-le, add-zero, sub-zero}
 use native.Mathlib.Omega.{arith}
-use lib.ListN.{length, set, take, drop, replicate, getD, length-append, length-replicate, List·getD-append}
-use lib.Seq.{take-length, drop-cons, drop-length, set-at, getD-append-add}
-use Rattle.laws.specs.Lists.{listTo, pad, anyOf}
+use lib.ListN.{length, set, take, drop, replicate, getD, length-append, length-map, length-replicate, List·getD-append}
+use lib.Seq.{take-length, take-suc, take-all, length-take-le, drop-cons, drop-length, set-at, getD-append-add}
+use lib.Dec.{T}
+use mir.Facts.{and-yes}
+use Rattle.laws.specs.Lists.{listTo, pad, anyOf, allOf}
 
 module _ {A : Type 0} where
   pub pad-push : (z : A) (cap : ℕ) (xs : List A) (a : A) (n : ℕ) → length xs ≡ n → n < cap → set (pad z cap xs) n a ≡ pad z cap (xs ++ (a ∷ []))
@@ -36,6 +38,12 @@ module _ {A : Type 0} where
   unfolding pad
   pad-at z cap xs k h = List·getD-append xs (replicate (cap - length xs) z) z k h
 
+  -- an entry is the same whatever stands past the end
+  pub getD-any : (xs : List A) (i : ℕ) (d e : A) → i < length xs → getD xs i d ≡ getD xs i e
+  getD-any [] i d e h = absurd (not-suc-le-zero h)
+  getD-any (x ∷ xs) zero d e h = refl
+  getD-any (x ∷ xs) (suc i) d e h = getD-any xs i d e (le-of-suc-le-suc h)
+
 module _ {A : Type 0} (p : A → Bool) where
   pub any-none : (xs : List A) → anyOf p (take 0 xs) ≡ false
   unfolding anyOf
@@ -53,6 +61,20 @@ module _ {A : Type 0} (p : A → Bool) where
 
   pub any-all : (xs : List A) (i : ℕ) → i ≡ length xs → anyOf p (take i xs) ≡ anyOf p xs
   any-all xs i e = rw (e, take-length xs)
+
+  -- past the end stands d
+  pub all-at : (d : A) → T (p d) → (xs : List A) → T (allOf p xs) → (i : ℕ) → T (p (getD xs i d))
+  unfolding allOf
+  all-at d h [] t i = h
+  all-at d h (x ∷ xs) t zero = and-yes (p x) (allOf p xs) t .0
+  all-at d h (x ∷ xs) t (suc i) = all-at d h xs (and-yes (p x) (allOf p xs) t .1) i
+
+  -- of an entry, whatever stands past the end
+  pub all-in : (xs : List A) → T (allOf p xs) → (i : ℕ) (d : A) → i < length xs → T (p (getD xs i d))
+  unfolding allOf
+  all-in [] t i d h = absurd (not-suc-le-zero h)
+  all-in (x ∷ xs) t zero d h = and-yes (p x) (allOf p xs) t .0
+  all-in (x ∷ xs) t (suc i) d h = all-in xs (and-yes (p x) (allOf p xs) t .1) i d (le-of-suc-le-suc h)
 
 module _ {A : Type 0} (f : ℕ → A) where
   pub length-list-to : (n : ℕ) → length (listTo f n) ≡ n
@@ -90,3 +112,18 @@ module _ {A : Type 0} (f : ℕ → A) where
   pub pad-on : (z : A) (cap i : ℕ) → i < cap → set (pad z cap (listTo f i)) i (f i) ≡ pad z cap (listTo f (i + 1))
   unfolding listTo
   pad-on z cap i h = rw (add-one i) (pad-push z cap (listTo f i) (f i) i (length-list-to i) h)
+
+-- an array that holds f of another's entries
+module _ {A B : Type 0} (f : A → B) (z : B) (cap : ℕ) (xs : List A) where
+  pub map-start : pad z cap (map f (take 0 xs)) ≡ replicate cap z
+  unfolding pad
+  map-start = simp sub-zero
+
+  -- one entry more
+  pub map-on : (i : ℕ) (d : A) → i < length xs → i < cap → set (pad z cap (map f (take i xs))) i (f (getD xs i d)) ≡ pad z cap (map f (take (i + 1) xs))
+  map-on i d h k =
+      let n : length (map f (take i xs)) ≡ i = length-map (take i xs) f ∙ length-take-le i xs (omega arith) in
+      rw (add-one i, take-suc xs i d h, map-append) (pad-push z cap (map f (take i xs)) (f (getD xs i d)) i n k)
+
+  pub map-full : (i : ℕ) → i ≡ cap → length xs ≡ cap → pad z cap (map f (take i xs)) ≡ map f xs
+  map-full i e h = rw (take-all i xs (omega arith)) (pad-full z cap (map f xs) (length-map xs f ∙ h))

@@ -1,5 +1,5 @@
 -- Words for lists. Definitions only.
-use mathlib.Core.Bool.{Bool, false, _||_}
+use mathlib.Core.Bool.{Bool, true, false, _&&_, _||_}
 use mathlib.Core.List.{List, [], _∷_, _++_}
 use Prim.Native.Nat.{ℕ, zero, suc, _+_, _-_}
 use lib.ListN.{length, replicate, take, drop}
@@ -22,3 +22,8 @@ module _ {A : Type 0} where
   unfoldable pub anyOf : (A → Bool) → List A → Bool
   anyOf p [] = false
   anyOf p (x ∷ xs) = p x || anyOf p xs
+
+  -- p holds of every entry
+  unfoldable pub allOf : (A → Bool) → List A → Bool
+  allOf p [] = true
+  allOf p (x ∷ xs) = p x && allOf p xs

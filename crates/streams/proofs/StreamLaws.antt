@@ -6,11 +6,11 @@ use native.Mathlib.Nat.{lt-of-lt-of-le, le-of-lt, zero-lt-suc, add-zero, mul-one
 use native.Mathlib.Omega.{arith}
 use lib.Dec.{lit<, lit≤}
 use lib.Pow.{shl-lt}
-use lib.Ieee.{Float, binary32, round, ofBits}
+use lib.Ieee.{Float, binary32, round, ofBits, ofInt}
 use lib.Ieee.Exact.{HasValue, round-exact}
 use lib.Ieee.Order.{le-of-values}
-use Rattle.laws.specs.Floats.{f32Of}
-use Rattle.laws.proofs.Exact.{whole-value, div-at, lt-of-values}
+use Rattle.laws.specs.Floats.{f32Of, In}
+use Rattle.laws.proofs.Exact.{whole-value, nonneg-of-value, div-at, lt-of-values}
 use Rattle.streams.specs.Stream.{after, wordAt, nextU64Of, unitBy, unitAt, unitOf, IsUnit}
 use Rattle.streams.specs.declared.stream.NoiseStream.{NoiseStream}
 use Rattle.streams.proofs.MixLaws.{splitmix-draw-lt}
@@ -87,3 +87,12 @@ unit-at s n = unit-by (wordAt s n / 2 ^ 40) (omega (arith, word-lt s n))
 pub unit-is : (s : NoiseStream) → IsUnit (wordAt s 1 / 2 ^ 40) (unitOf s .value)
 unfolding unitOf
 unit-is s = unit-at s 1
+
+pub unit-in : (k : ℕ) (u : Float) → IsUnit k u → In (f32Of 0) (f32Of 1) u
+unit-in k u i = record {
+  lo-ok = unfold ofInt in tt;
+  hi-ok = unfold ofInt in tt;
+  ok = nonneg-of-value u k (2 ^ 24) (i .exact);
+  least = i .least;
+  most = le-of-values u (f32Of 1) k (2 ^ 24) 1 1 (lit< tt) (lit< tt) (i .exact) (whole-value 1 (lit≤ tt)) (omega (arith, i .digits));
+}

@@ -1,0 +1,94 @@
+-- An array that grows at its count: what is in use stays, and what each step adds is known. Assumes nothing.
+use mathlib.Core.Path.{_≡_, refl, sym, ap, _∙_, subst}
+use mathlib.Core.Logic.{_⊎_, inl, inr, ⊎-elim}
+use mathlib.Core.List.{List}
+use Prim.Native.Nat.{ℕ, suc, _+_, _-_, _≤_, _<_}
+use native.Mathlib.Nat.{eq-zero-or-pos}
+use native.Mathlib.Omega.{arith}
+use lib.ListN.{length, set, getD, length-set}
+use lib.Seq.{getD-set-same, getD-set-other}
+use Rattle.laws.specs.Lanes.{Rises, Occurs}
+
+-- ys with m entries in use, grown from xs with n: each entry that is new has P, and all others stay
+pub record Grown {A : Type 0} (d : A) (P : A → Type 0) (xs ys : List A) (n m : ℕ) : Type 0 where
+  pub size : length ys ≡ length xs
+  pub more : n ≤ m
+  pub kept : (i : ℕ) → i < n → getD ys i d ≡ getD xs i d
+  pub rest : (i : ℕ) → m ≤ i → getD ys i d ≡ getD xs i d
+  pub new : (i : ℕ) → n ≤ i → i < m → P (getD ys i d)
+
+in-use : (i n : ℕ) → (i < n) ⊎ (n ≤ i)
+in-use i n = ⊎-elim (λ (e : n - i ≡ 0). inr (omega arith)) (λ (h : 0 < n - i). inl (omega arith)) (eq-zero-or-pos (n - i))
+
+module _ {A : Type 0} (d : A) where
+  pub grown-none : (P : A → Type 0) (xs : List A) (n : ℕ) → Grown d P xs xs n n
+  grown-none P xs n = record {
+    size = refl;
+    more = omega arith;
+    kept = λ i h. refl;
+    rest = λ i h. refl;
+    new = λ i h k. absurd (omega arith);
+  }
+
+  pub grown-push : (P : A → Type 0) (xs : List A) (n : ℕ) (x : A) → n < length xs → P x → Grown d P xs (set xs n x) n (n + 1)
+  grown-push P xs n x h p = record {
+    size = length-set xs n x;
+    more = omega arith;
+    kept = λ i k. getD-set-other xs n i x d (λ e. omega arith);
+    rest = λ i k. getD-set-other xs n i x d (λ e. omega arith);
+    new = λ i k l. let e : i ≡ n = omega arith in subst P (sym (ap (λ (j : ℕ). getD (set xs n x) j d) e ∙ getD-set-same xs n x d h)) p;
+  }
+
+  pub grown-then : (P : A → Type 0) (xs ys zs : List A) (n m k : ℕ) → Grown d P xs ys n m → Grown d P ys zs m k → Grown d P xs zs n k
+  grown-then P xs ys zs n m k g h = record {
+    size = h .size ∙ g .size;
+    more = omega (arith, g .more, h .more);
+    kept = λ i l. h .kept i (omega (arith, g .more)) ∙ g .kept i l;
+    rest = λ i l. h .rest i l ∙ g .rest i (omega (arith, h .more));
+    new = λ i l u. ⊎-elim (λ (e : i < m). subst P (sym (h .kept i e)) (g .new i l e)) (λ (e : m ≤ i). h .new i e u) (in-use i m);
+  }
+
+  -- a weaker word for what is new
+  pub grown-as : (P Q : A → Type 0) (xs ys : List A) (n m : ℕ) → ((a : A) → P a → Q a) → Grown d P xs ys n m → Grown d Q xs ys n m
+  grown-as P Q xs ys n m f g = record {
+    size = g .size;
+    more = g .more;
+    kept = g .kept;
+    rest = g .rest;
+    new = λ i l u. f (getD ys i d) (g .new i l u);
+  }
+
+  -- what holds of each entry in use, and of each that is new
+  pub grown-all : (P : A → Type 0) (xs ys : List A) (n m : ℕ) → ((i : ℕ) → i < n → P (getD xs i d)) → Grown d P xs ys n m → (i : ℕ) → i < m → P (getD ys i d)
+  grown-all P xs ys n m all g i h =
+      ⊎-elim (λ (e : i < n). subst P (sym (g .kept i e)) (all i e)) (λ (e : n ≤ i). g .new i e h) (in-use i n)
+
+  module _ (f : A → ℕ) (xs ys : List A) (n m : ℕ) where
+    module _ (v : ℕ) (g : Grown d (λ a. f a ≡ v) xs ys n m) where
+      grown-most : (top : ℕ) → top ≤ v → Rises (λ i. f (getD xs i d)) n top → (i : ℕ) → i < m → f (getD ys i d) ≤ v
+      grown-most top t r i h =
+          ⊎-elim
+          (λ (e : i < n). subst (λ (a : A). f a ≤ v) (sym (g .kept i e)) (omega (arith, r .most i e)))
+          (λ (e : n ≤ i). omega (arith, g .new i e h))
+          (in-use i n)
+
+      grown-rise : (top : ℕ) → top ≤ v → Rises (λ i. f (getD xs i d)) n top → (i : ℕ) → suc i < m → f (getD ys i d) ≤ f (getD ys (suc i) d)
+      grown-rise top t r i h =
+          ⊎-elim
+          (λ (e : suc i < n).
+          subst (λ (a : A). f (getD ys i d) ≤ f a) (sym (g .kept (suc i) e)) (subst (λ (a : A). f a ≤ f (getD xs (suc i) d)) (sym (g .kept i (omega arith))) (r .rise i e)))
+          (λ (e : n ≤ suc i). omega (arith, grown-most top t r i (omega arith), g .new (suc i) e h))
+          (in-use (suc i) n)
+
+      -- entries of v behind entries up to v
+      pub rises-grown : (top : ℕ) → top ≤ v → Rises (λ i. f (getD xs i d)) n top → Rises (λ i. f (getD ys i d)) m v
+      rises-grown top t r = record { most = grown-most top t r; rise = grown-rise top t r }
+
+      pub occurs-new : n < m → Occurs (λ i. f (getD ys i d)) m v
+      occurs-new h = record { place = n; until = h; is = g .new n (omega arith) h }
+
+    pub occurs-kept : (P : A → Type 0) (v : ℕ) → Grown d P xs ys n m → Occurs (λ i. f (getD xs i d)) n v → Occurs (λ i. f (getD ys i d)) m v
+    occurs-kept P v g o = record { place = o .place; until = omega (arith, g .more, o .until); is = ap f (g .kept (o .place) (o .until)) ∙ o .is }
+
+    pub rises-none : (top : ℕ) → Rises (λ i. f (getD xs i d)) 0 top
+    rises-none top = record { most = λ i h. absurd (omega arith); rise = λ i h. absurd (omega arith) }
