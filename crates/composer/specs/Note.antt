@@ -1,0 +1,20 @@
+-- Notes and drum hits: an unused entry of a lane, and what stands past an array's end. Definitions only.
+use lib.Ieee.{Float, nan, binary32, ofBits}
+use Rattle.composer.specs.declared.note.Note.{Note}
+use Rattle.composer.specs.declared.note.Hit.{Hit}
+use Rattle.composer.specs.declared.note.DrumKind.{DrumKind}
+
+abbrev pub zero32 : Float
+zero32 = ofBits binary32 0
+
+abbrev pub noNote : Note
+noNote = record { bar = 0; at = zero32; midi = 0; vel = zero32; dur = zero32 }
+
+abbrev pub pastNote : Note
+pastNote = record { bar = 0; at = nan; midi = 0; vel = nan; dur = nan }
+
+abbrev pub noHit : Hit
+noHit = record { bar = 0; at = zero32; kind = DrumKind.Kick; gain = zero32 }
+
+abbrev pub pastHit : Hit
+pastHit = record { bar = 0; at = nan; kind = DrumKind.Kick; gain = nan }

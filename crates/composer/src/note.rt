@@ -1,0 +1,40 @@
+// What a lane plays: notes and drum hits. Each has the loop bar that it was drawn for.
+
+// Its time, in seconds into the loop, its pitch (MIDI), its velocity, and how long it is held, in seconds.
+pub struct Note {
+    pub bar: u8,
+    pub at: f32,
+    pub midi: u8,
+    pub vel: f32,
+    pub dur: f32,
+}
+
+pub enum DrumKind {
+    Kick,
+    Snare,
+    Hat,
+    OpenHat,
+}
+
+pub struct Hit {
+    pub bar: u8,
+    pub at: f32,
+    pub kind: DrumKind,
+    pub gain: f32,
+}
+
+// An unused entry of a lane.
+pub const NO_NOTE: Note = Note {
+    bar: 0,
+    at: 0.0,
+    midi: 0,
+    vel: 0.0,
+    dur: 0.0,
+};
+
+pub const NO_HIT: Hit = Hit {
+    bar: 0,
+    at: 0.0,
+    kind: DrumKind::Kick,
+    gain: 0.0,
+};

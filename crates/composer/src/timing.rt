@@ -1,0 +1,34 @@
+// Times in a bar.
+ghost use mathlib.Core.Path.{_≡_};
+ghost use Rattle.composer.specs.Timing.{fractOf, swingDelayOf, heldAtZero};
+use streams::float::truncated;
+
+// Bars in the loop that every lane plays.
+pub const GEN_LOOP_BARS: usize = 8;
+
+pub const BEATS_PER_BAR: f32 = 4.0;
+
+// The fraction of a beat: 0 on a whole one. From 2^24 on there are only whole ones.
+pub fn fract(x: f32) -> f32
+    ensures { λ r. ⌜ r ≡ fractOf x ⌝ }
+{
+    if x < 16777216.0 {
+        x - truncated(x) as f32
+    } else {
+        0.0
+    }
+}
+
+// How far an off-eighth is delayed at swing s.
+pub fn swing_delay(s: f32, eighth_s: f32) -> f32
+    ensures { λ r. ⌜ r ≡ swingDelayOf s «eighth_s» ⌝ }
+{
+    (s - 0.5) * eighth_s
+}
+
+// t, or 0 where t is before the loop.
+pub fn held_at_zero(t: f32) -> f32
+    ensures { λ r. ⌜ r ≡ heldAtZero t ⌝ }
+{
+    if t > 0.0 { t } else { 0.0 }
+}
