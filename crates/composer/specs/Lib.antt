@@ -1,4 +1,11 @@
 pub mod Band
 pub mod Cases
+pub mod Chord
 pub mod Form
+pub mod Harmony
+pub mod Note
 pub mod Refusal
+pub mod Spread
+pub mod Style
+pub mod Tempo
+pub mod Timing
