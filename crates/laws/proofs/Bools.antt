@@ -1,6 +1,6 @@
 -- Tests that follow from one another. Assumes nothing.
 use mathlib.Core.Path.{_≡_, refl}
-use mathlib.Core.Bool.{Bool, true, false, not, _||_}
+use mathlib.Core.Bool.{Bool, true, false, not, _||_, cond}
 use lib.Dec.{T}
 
 pub holds : (a : Bool) → T a → a ≡ true
@@ -17,3 +17,12 @@ pub contra : (x y : Bool) → (T x → T y) → not y ≡ true → not x ≡ tru
 contra true true i h = h
 contra true false i h = absurd (i tt)
 contra false y i h = refl
+
+-- what holds of both values, each where the test takes it, holds of the one taken
+pub cond-by : {A : Type 0} (P : A → Type 0) (t : Bool) (a b : A) → (t ≡ true → P a) → (t ≡ false → P b) → P (cond t a b)
+cond-by P true a b p q = p refl
+cond-by P false a b p q = q refl
+
+pub either : {A : Type 0} (P : A → Type 0) (t : Bool) (a b : A) → P a → P b → P (cond t a b)
+either P true a b p q = p
+either P false a b p q = q

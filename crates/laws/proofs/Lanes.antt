@@ -2,12 +2,12 @@
 use mathlib.Core.Path.{_≡_, refl, sym, ap, _∙_, subst}
 use mathlib.Core.Logic.{_⊎_, inl, inr, ⊎-elim}
 use mathlib.Core.List.{List}
-use Prim.Native.Nat.{ℕ, suc, _+_, _-_, _≤_, _<_}
-use native.Mathlib.Nat.{eq-zero-or-pos}
+use Prim.Native.Nat.{ℕ, zero, suc, _+_, _-_, _≤_, _<_}
+use native.Mathlib.Nat.{eq-zero-or-pos, eq-or-lt-of-le, le-of-suc-le-suc}
 use native.Mathlib.Omega.{arith}
-use lib.ListN.{length, set, getD, length-set}
+use lib.ListN.{length, set, getD, replicate, length-set, length-replicate, getD-replicate}
 use lib.Seq.{getD-set-same, getD-set-other}
-use Rattle.laws.specs.Lanes.{Rises, Occurs}
+use Rattle.laws.specs.Lanes.{Rises, Occurs, Laid}
 
 -- ys with m entries in use, grown from xs with n: each entry that is new has P, and all others stay
 pub record Grown {A : Type 0} (d : A) (P : A → Type 0) (xs ys : List A) (n m : ℕ) : Type 0 where
@@ -81,14 +81,52 @@ module _ {A : Type 0} (d : A) where
           (in-use (suc i) n)
 
       -- entries of v behind entries up to v
-      pub rises-grown : (top : ℕ) → top ≤ v → Rises (λ i. f (getD xs i d)) n top → Rises (λ i. f (getD ys i d)) m v
+      rises-grown : (top : ℕ) → top ≤ v → Rises (λ i. f (getD xs i d)) n top → Rises (λ i. f (getD ys i d)) m v
       rises-grown top t r = record { most = grown-most top t r; rise = grown-rise top t r }
 
-      pub occurs-new : n < m → Occurs (λ i. f (getD ys i d)) m v
+      occurs-new : n < m → Occurs (λ i. f (getD ys i d)) m v
       occurs-new h = record { place = n; until = h; is = g .new n (omega arith) h }
 
-    pub occurs-kept : (P : A → Type 0) (v : ℕ) → Grown d P xs ys n m → Occurs (λ i. f (getD xs i d)) n v → Occurs (λ i. f (getD ys i d)) m v
+    occurs-kept : (P : A → Type 0) (v : ℕ) → Grown d P xs ys n m → Occurs (λ i. f (getD xs i d)) n v → Occurs (λ i. f (getD ys i d)) m v
     occurs-kept P v g o = record { place = o .place; until = omega (arith, g .more, o .until); is = ap f (g .kept (o .place) (o .until)) ∙ o .is }
 
-    pub rises-none : (top : ℕ) → Rises (λ i. f (getD xs i d)) 0 top
+    rises-none : (top : ℕ) → Rises (λ i. f (getD xs i d)) 0 top
     rises-none top = record { most = λ i h. absurd (omega arith); rise = λ i h. absurd (omega arith) }
+
+-- ---- a lane that grows bar by bar: xs b are its entries after b bars, n b of them in use
+module _ {A : Type 0} (d none : A) (f : A → ℕ) (cap bars : ℕ) (xs : ℕ → List A) (n : ℕ → ℕ) (start : xs 0 ≡ replicate cap none) (empty : n 0 ≡ 0)
+    (few : (b : ℕ) → b ≤ bars → n b ≤ cap) (bar : (b : ℕ) → b < bars → length (xs b) ≡ cap → Grown d (λ a. f a ≡ b) (xs b) (xs (suc b)) (n b) (n (suc b))) where
+  none-laid : Laid d none f cap 0 (xs 0) (n 0)
+  none-laid =
+      rw (start, empty)
+      (record {
+        size = length-replicate cap none;
+        few = omega arith;
+        rises = rises-none d f (replicate cap none) (replicate cap none) 0 0 0;
+        rest = λ i h k. getD-replicate cap i none d k;
+      })
+
+  pub bars-laid : (b : ℕ) → b ≤ bars → Laid d none f cap (b - 1) (xs b) (n b)
+  bars-laid zero h = none-laid
+  bars-laid (suc b) h =
+      let l = bars-laid b (omega arith) in
+      let g = bar b (omega arith) (l .size) in
+      let e : suc b - 1 ≡ b = omega arith in
+      rw e
+      (record {
+        size = g .size ∙ l .size;
+        few = few (suc b) h;
+        rises = rises-grown d f (xs b) (xs (suc b)) (n b) (n (suc b)) b g (b - 1) (omega arith) (l .rises);
+        rest = λ i j k. g .rest i j ∙ l .rest i (omega (arith, g .more)) k;
+      })
+
+  bar-grown : (b : ℕ) → b < bars → Grown d (λ a. f a ≡ b) (xs b) (xs (suc b)) (n b) (n (suc b))
+  bar-grown b h = bar b h (bars-laid b (omega arith) .size)
+
+  -- where each bar adds an entry, each has one
+  pub bars-occur : ((b : ℕ) → b < bars → n b < n (suc b)) → (b k : ℕ) → b ≤ bars → k < b → Occurs (λ i. f (getD (xs b) i d)) (n b) k
+  bars-occur more zero k h l = absurd (omega arith)
+  bars-occur more (suc b) k h l =
+      let g = bar-grown b (omega arith) in
+      ⊎-elim (λ (e : k ≡ b). rw e (occurs-new d f (xs b) (xs (suc b)) (n b) (n (suc b)) b g (more b (omega arith))))
+      (λ (e : k < b). occurs-kept d f (xs b) (xs (suc b)) (n b) (n (suc b)) (λ a. f a ≡ b) k g (bars-occur more b k (omega arith) e)) (eq-or-lt-of-le (le-of-suc-le-suc l))

@@ -1,6 +1,8 @@
 -- Words for the entries in use of an array that grows at its count. Definitions only.
 use mathlib.Core.Path.{_≡_}
+use mathlib.Core.List.{List}
 use Prim.Native.Nat.{ℕ, suc, _≤_, _<_}
+use lib.ListN.{length, getD}
 
 -- the first n values never fall, and none is above `top`
 pub record Rises (f : ℕ → ℕ) (n top : ℕ) : Type 0 where
@@ -12,3 +14,10 @@ pub record Occurs (f : ℕ → ℕ) (n v : ℕ) : Type 0 where
   pub place : ℕ
   pub until : place < n
   pub is : f place ≡ v
+
+-- an array of `cap` entries: the first n are in the order of f, which is at most `top`, and the others are `none`; d stands past its end
+pub record Laid {A : Type 0} (d none : A) (f : A → ℕ) (cap top : ℕ) (xs : List A) (n : ℕ) : Type 0 where
+  pub size : length xs ≡ cap
+  pub few : n ≤ cap
+  pub rises : Rises (λ i. f (getD xs i d)) n top
+  pub rest : (i : ℕ) → n ≤ i → i < cap → getD xs i d ≡ none

@@ -1,4 +1,6 @@
 pub mod Floats
-pub mod Lists
-pub mod Runs
 pub mod Lanes
+pub mod Lists
+pub mod Order
+pub mod Runs
+pub mod Sorts
