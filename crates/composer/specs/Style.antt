@@ -1,5 +1,9 @@
 -- The two styles, and every knob their songs are written with. Definitions only.
+use mathlib.Core.Bool.{false}
 use lib.Ieee.{Float, binary32, ofBits}
+use Rattle.streams.specs.Draw.{chanceOf}
+use Rattle.streams.specs.declared.stream.NoiseStream.{NoiseStream}
+use Rattle.streams.specs.declared.draw.ChanceDraw.{ChanceDraw}
 use Rattle.composer.specs.Spread.{betweenOf}
 use Rattle.composer.specs.declared.spread.Spread.{Spread}
 use Rattle.composer.specs.declared.style.Style.{Style}
@@ -10,6 +14,11 @@ use Rattle.composer.specs.declared.style.Density.{Density}
 use Rattle.composer.specs.declared.style.Comp.{Comp}
 use Rattle.composer.specs.declared.style.KeysStyle.{KeysStyle}
 use Rattle.composer.specs.declared.style.BassStyle.{BassStyle}
+
+-- what a style never does takes no draw
+unfoldable pub oddsOf : Odds → NoiseStream → ChanceDraw
+oddsOf Odds.Never s = record { value = false; stream = s }
+oddsOf (Odds.Chance p) s = chanceOf s p
 
 -- 0.8, 0.42
 abbrev pub majorShareOf : Style → Float

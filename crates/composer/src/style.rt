@@ -1,8 +1,11 @@
 // The two styles, and every knob their songs are written with.
 ghost use mathlib.Core.Path.{_≡_};
-ghost use Rattle.composer.specs.Style.{majorShareOf, bpmOf, leadStyleOf, keysStyleOf, bassStyleOf};
+ghost use Rattle.composer.specs.Style.{oddsOf, majorShareOf, bpmOf, leadStyleOf, keysStyleOf, bassStyleOf};
 use crate::spread::Spread;
 use crate::spread::between;
+use streams::draw::ChanceDraw;
+use streams::draw::chance;
+use streams::stream::NoiseStream;
 
 pub enum Style {
     Hiphop,
@@ -13,6 +16,21 @@ pub enum Style {
 pub enum Odds {
     Never,
     Chance(f32),
+}
+
+impl Odds {
+    // Yes by its chance; where there is none, no without a draw.
+    pub fn draw(self, s: NoiseStream) -> ChanceDraw
+        ensures { λ r. ⌜ r ≡ oddsOf self s ⌝ }
+    {
+        match self {
+            Odds::Never => ChanceDraw {
+                value: false,
+                stream: s,
+            },
+            Odds::Chance(p) => chance(s, p),
+        }
+    }
 }
 
 // The lead's window, the chance that a bar rests and that a slot sounds, how hard and how long a note is.

@@ -1,0 +1,42 @@
+-- A bar of the statement. Definitions only.
+use mathlib.Core.Bool.{cond}
+use mathlib.Core.List.{List, [], _∷_, foldl}
+use lib.Ieee.{Float, binary32, ofBits}
+use Rattle.streams.specs.Draw.{chanceOf}
+use Rattle.streams.specs.declared.stream.NoiseStream.{NoiseStream}
+use Rattle.composer.specs.Lead.Beats.{beatsOf, listOf, addOf, settleOf}
+use Rattle.composer.specs.Lead.Push.{pushOnOf}
+use Rattle.composer.specs.Style.{oddsOf}
+use Rattle.composer.specs.declared.style.LeadStyle.{LeadStyle}
+use Rattle.composer.specs.declared.lead.push.BeatsDraw.{BeatsDraw}
+
+-- 0.5, 1.0, 1.5, 2.0, 2.5, 3.0, 3.5
+abbrev pub leadGrid : List Float
+leadGrid =
+    ofBits binary32 0x3f00_0000 ∷ ofBits binary32 0x3f80_0000 ∷ ofBits binary32 0x3fc0_0000 ∷ ofBits binary32 0x4000_0000
+    ∷ ofBits binary32 0x4020_0000 ∷ ofBits binary32 0x4040_0000 ∷ ofBits binary32 0x4060_0000 ∷ []
+
+-- no beat yet
+abbrev pub emptyFrom : NoiseStream → BeatsDraw
+emptyFrom s = record { beats = beatsOf []; stream = s }
+
+-- a slot of the grid sounds with the chance p
+unfoldable pub slotOf : Float → BeatsDraw → Float → BeatsDraw
+slotOf p d x =
+    let c = chanceOf (d .stream) p in
+    record { beats = cond (c .value) (addOf (d .beats) x) (d .beats); stream = c .stream }
+
+unfoldable pub slotsOf : NoiseStream → Float → BeatsDraw
+slotsOf s p = foldl (slotOf p) (emptyFrom s) leadGrid
+
+unfoldable pub pushesOf : BeatsDraw → BeatsDraw
+pushesOf d = foldl pushOnOf (emptyFrom (d .stream)) (listOf (d .beats))
+
+abbrev pub settledOf : BeatsDraw → BeatsDraw
+settledOf d = record { beats = settleOf (d .beats); stream = d .stream }
+
+-- all slots are drawn, then the pushes of those that sound
+unfoldable pub statementBarOf : NoiseStream → LeadStyle → BeatsDraw
+statementBarOf s style =
+    let r = oddsOf (style .«rest_p») s in
+    cond (r .value) (emptyFrom (r .stream)) (settledOf (pushesOf (slotsOf (r .stream) (style .«note_p»))))

@@ -1,0 +1,63 @@
+// The lofi push.
+ghost use mathlib.Core.Path.{_≡_};
+ghost use Prim.Native.Nat.{_+_, _<_, _≤_};
+ghost use Rattle.composer.specs.Lead.Push.{pushOf, pushOnOf};
+use crate::lead::beats::Beats;
+use crate::lead::beats::add;
+use crate::spread::Drawn;
+use crate::timing::fract;
+use streams::draw::chance;
+use streams::stream::NoiseStream;
+
+// A bar's beats, and the stream after their draws.
+pub struct BeatsDraw {
+    pub beats: Beats,
+    pub stream: NoiseStream,
+}
+
+// The chance that an on-beat note lands a sixteenth ahead.
+const PUSH_P: f32 = 0.15;
+
+const SIXTEENTH_BEATS: f32 = 0.25;
+
+// The lofi push of one beat.
+fn push(s: NoiseStream, beat: f32) -> Drawn
+    ensures { λ r. ⌜ r ≡ pushOf s beat ⌝ }
+{
+    let f = fract(beat);
+    if f == 0.0 {
+        let c = chance(s, PUSH_P);
+        let next = c.stream;
+        if c.value {
+            return Drawn {
+                value: beat - SIXTEENTH_BEATS,
+                stream: next,
+            };
+        }
+        return Drawn {
+            value: beat,
+            stream: next,
+        };
+    }
+    Drawn {
+        value: beat,
+        stream: s,
+    }
+}
+
+// One beat more, pushed.
+pub(crate) fn push_on(d: BeatsDraw, beat: f32) -> BeatsDraw
+    requires { ⌜ d .beats .n < 7 ⌝ }
+    ensures { λ r. ⌜ r ≡ pushOnOf d beat ⌝ }
+    ensures { λ r. ⌜ r .beats .n ≤ d .beats .n + 1 ⌝ }
+{
+    let s = d.stream;
+    let beats = d.beats;
+    let p = push(s, beat);
+    let next = p.stream;
+    let more = add(beats, p.value);
+    BeatsDraw {
+        beats: more,
+        stream: next,
+    }
+}
