@@ -1,0 +1,13 @@
+pub mod BarsLaws
+pub mod BeatsLaws
+pub mod FitLaws
+pub mod GroundLaws
+pub mod LeadLaws
+pub mod MelodyLaws
+pub mod PitchLaws
+pub mod PlayedLaws
+pub mod QuarterLaws
+pub mod RhythmLaws
+pub mod ScaleLaws
+pub mod SettleLaws
+pub mod TonesLaws

@@ -1,0 +1,76 @@
+-- The lead over every tonal harmony: at most 56 notes, each in the style's window and in the scale, bar by bar. Assumes nothing.
+use mathlib.Core.Path.{_≡_}
+use mathlib.Core.Bool.{true}
+use Prim.Native.Nat.{ℕ, suc, _%_, _≤_, _<_}
+use native.Mathlib.Omega.{arith}
+use lib.ListN.{getD}
+use lib.Ieee.{Float}
+use Rattle.laws.specs.Lanes.{Laid}
+use Rattle.streams.specs.declared.stream.NoiseStream.{NoiseStream}
+use Rattle.composer.specs.Harmony.{Tonal}
+use Rattle.composer.specs.Note.{noNote, pastNote, noteBar}
+use Rattle.composer.specs.Style.{leadStyleOf}
+use Rattle.composer.specs.Lead.{sungOf, leadOf}
+use Rattle.composer.specs.Lead.Rhythm.{rhythmOf}
+use Rattle.composer.specs.Lead.Scale.{poolOf, hasOf}
+use Rattle.composer.specs.Lead.Melody.{noLead, pastLead}
+use Rattle.composer.specs.Lead.Sound.{Good, Ready}
+use Rattle.composer.specs.declared.harmony.Harmony.{Harmony}
+use Rattle.composer.specs.declared.style.Style.{Style}
+use Rattle.composer.specs.declared.style.LeadStyle.{LeadStyle}
+use Rattle.composer.specs.declared.lead.melody.Sung.{Sung}
+use Rattle.composer.proofs.lead.BarsLaws.{leadBar, melody-laid}
+use Rattle.composer.proofs.lead.FitLaws.{fits-what}
+use Rattle.composer.proofs.lead.GroundLaws.{ready}
+use Rattle.composer.proofs.lead.MelodyLaws.{melody-good}
+use Rattle.composer.proofs.lead.PlayedLaws.{played-count, played-size, played-keeps, played-rest}
+use Rattle.composer.proofs.lead.RhythmLaws.{rhythm-few}
+
+module _ (s : NoiseStream) (h : Harmony) (tonal : Tonal h) (style : Style) where
+  abbrev l : LeadStyle
+  l = leadStyleOf style
+
+  song-ready : Ready (rhythmOf s l .bars) (h .bars) (poolOf (h .scale)) l
+  song-ready = ready h tonal style (rhythmOf s l .bars) (rhythm-few s l)
+
+  pub sung-good : Good (poolOf (h .scale)) (l .lo) (l .hi) (sungOf s h style) × (sungOf s h style .count ≤ 56)
+  unfolding sungOf
+  sung-good = melody-good (rhythmOf s l .bars) (h .bars) (poolOf (h .scale)) l song-ready (rhythmOf s l .stream)
+
+  sung-laid : Laid pastLead noLead leadBar 56 7 (sungOf s h style .notes) (sungOf s h style .count)
+  unfolding sungOf
+  sung-laid = melody-laid (rhythmOf s l .stream) (rhythmOf s l .bars) (h .bars) (poolOf (h .scale)) l song-ready
+
+  module _ (beatS : Float) where
+    abbrev m : Sung
+    m = sungOf s h style
+
+    same-count : leadOf s h style beatS .count ≡ m .count
+    unfolding leadOf
+    same-count = played-count m beatS (l .dur)
+
+    keeps : (i : ℕ) → i < leadOf s h style beatS .count
+        → (getD (leadOf s h style beatS .notes) i pastNote .bar ≡ leadBar (getD (m .notes) i pastLead)) × (getD (leadOf s h style beatS .notes) i pastNote .midi ≡ getD (m .notes) i pastLead .note)
+    unfolding leadOf
+    keeps i a = played-keeps m beatS (l .dur) (sung-good .1) i (omega (arith, same-count))
+
+    -- each note is in the style's window, and its class in the scale
+    pub lead-fits : (i : ℕ) → i < leadOf s h style beatS .count
+        → (l .lo ≤ getD (leadOf s h style beatS .notes) i pastNote .midi) × (getD (leadOf s h style beatS .notes) i pastNote .midi ≤ l .hi)
+        × (hasOf (poolOf (h .scale)) (getD (leadOf s h style beatS .notes) i pastNote .midi % 12) ≡ true)
+    lead-fits i a =
+        rw (keeps i a .1)
+        (fits-what (poolOf (h .scale)) (l .lo) (l .hi) (getD (m .notes) i pastLead .note) (sung-good .0 .notes i (omega (arith, same-count))))
+
+    -- at most 56 notes, bar after bar, and zero behind them
+    pub lead-laid : Laid pastNote noNote noteBar 56 7 (leadOf s h style beatS .notes) (leadOf s h style beatS .count)
+    unfolding leadOf
+    lead-laid = record {
+      size = played-size m beatS (l .dur);
+      few = omega (arith, same-count, sung-laid .few);
+      rises = record {
+        most = λ i a. rw (keeps i a .0) (sung-laid .rises .most i (omega (arith, same-count)));
+        rise = λ i a. rw (keeps i (omega arith) .0, keeps (suc i) a .0) (sung-laid .rises .rise i (omega (arith, same-count)));
+      };
+      rest = λ i a b. played-rest m beatS (l .dur) i (omega (arith, same-count)) b;
+    }

@@ -1,0 +1,67 @@
+-- The lane keeps the melody's bars and pitches, note for note, and nothing else is played. Assumes nothing.
+use mathlib.Core.Path.{_≡_, refl, sym, _∙_}
+use mathlib.Core.Logic.{⊎-elim}
+use Prim.Native.Nat.{ℕ, zero, suc, _≤_, _<_}
+use native.Mathlib.Nat.{eq-or-lt-of-le, le-of-suc-le-suc, not-suc-le-zero}
+use native.Mathlib.Omega.{arith}
+use lib.ListN.{getD, length, length-set, getD-replicate}
+use lib.Seq.{getD-set-same, getD-set-other}
+use lib.Ieee.{Float}
+use Rattle.streams.specs.declared.stream.NoiseStream.{NoiseStream}
+use Rattle.composer.specs.Note.{noNote, pastNote}
+use Rattle.composer.specs.Lead.Melody.{pastLead}
+use Rattle.composer.specs.Lead.Played.{playOf, playTo, silenceOf, playedOf}
+use Rattle.composer.specs.declared.note.Note.{Note}
+use Rattle.composer.specs.declared.lead.LeadLane.{LeadLane}
+use Rattle.composer.specs.declared.lead.melody.LeadNote.{LeadNote}
+use Rattle.composer.specs.declared.lead.melody.Sung.{Sung}
+
+-- a note as played: its bar and its pitch are kept
+abbrev pub Keeps : Note → LeadNote → Type 0
+Keeps x y = (x .bar ≡ y .bar) × (x .midi ≡ y .note)
+
+module _ (m : Sung) (beatS dur : Float) (s : NoiseStream) where
+  abbrev lane : ℕ → LeadLane
+  lane k = playTo m beatS dur (silenceOf s) k
+
+  pub lane-count : (k : ℕ) → lane k .count ≡ k
+  unfolding playTo playOf
+  lane-count zero = refl
+  lane-count (suc k) = omega (arith, lane-count k)
+
+  lane-size : (k : ℕ) → length (lane k .notes) ≡ 56
+  unfolding playTo playOf
+  lane-size zero = refl
+  lane-size (suc k) = length-set (lane k .notes) (lane k .count) _ ∙ lane-size k
+
+  lane-keeps : (k : ℕ) → k ≤ 56 → (i : ℕ) → i < k → Keeps (getD (lane k .notes) i pastNote) (getD (m .notes) i pastLead)
+  unfolding playTo playOf
+  lane-keeps zero h i b = absurd (not-suc-le-zero b)
+  lane-keeps (suc k) h i b =
+      ⊎-elim
+      (λ (e : i ≡ k). let f : i ≡ lane k .count = e ∙ sym (lane-count k) in rw (f, getD-set-same (lane k .notes) (lane k .count) _ pastNote (omega (arith, lane-size k, lane-count k)), lane-count k) (refl, refl))
+      (λ (e : i < k). rw (getD-set-other (lane k .notes) (lane k .count) i _ pastNote (λ f. omega (arith, lane-count k))) (lane-keeps k (omega arith) i e))
+      (eq-or-lt-of-le (le-of-suc-le-suc b))
+
+  lane-rest : (k i : ℕ) → k ≤ i → i < 56 → getD (lane k .notes) i pastNote ≡ noNote
+  unfolding playTo playOf
+  lane-rest zero i h b = getD-replicate 56 i noNote pastNote b
+  lane-rest (suc k) i h b =
+      getD-set-other (lane k .notes) (lane k .count) i _ pastNote (λ f. omega (arith, lane-count k)) ∙ lane-rest k i (omega arith) b
+
+module _ (m : Sung) (beatS dur : Float) where
+  pub played-count : playedOf m beatS dur .count ≡ m .count
+  unfolding playedOf
+  played-count = lane-count m beatS dur (m .line .stream) (m .count)
+
+  pub played-size : length (playedOf m beatS dur .notes) ≡ 56
+  unfolding playedOf
+  played-size = lane-size m beatS dur (m .line .stream) (m .count)
+
+  pub played-keeps : m .count ≤ 56 → (i : ℕ) → i < m .count → Keeps (getD (playedOf m beatS dur .notes) i pastNote) (getD (m .notes) i pastLead)
+  unfolding playedOf
+  played-keeps h = lane-keeps m beatS dur (m .line .stream) (m .count) h
+
+  pub played-rest : (i : ℕ) → m .count ≤ i → i < 56 → getD (playedOf m beatS dur .notes) i pastNote ≡ noNote
+  unfolding playedOf
+  played-rest = lane-rest m beatS dur (m .line .stream) (m .count)

@@ -1,0 +1,48 @@
+-- The melody as played: behind the grid, each note with an accent. Definitions only.
+use Prim.Native.Nat.{ℕ, zero, suc, _+_}
+use lib.ListN.{getD, set, replicate}
+use lib.Ieee.{Float, binary32, ofBits, add, mul}
+use Rattle.laws.specs.Floats.{f32Of}
+use Rattle.streams.specs.declared.stream.NoiseStream.{NoiseStream}
+use Rattle.composer.specs.Note.{noNote}
+use Rattle.composer.specs.Spread.{drawOf, afterOf}
+use Rattle.composer.specs.Timing.{barSOf}
+use Rattle.composer.specs.Lead.Melody.{pastLead}
+use Rattle.composer.specs.declared.spread.Spread.{Spread}
+use Rattle.composer.specs.declared.lead.LeadLane.{LeadLane}
+use Rattle.composer.specs.declared.lead.melody.LeadNote.{LeadNote}
+use Rattle.composer.specs.declared.lead.melody.Sung.{Sung}
+
+-- 0.008 and 0.014
+abbrev pub leadLag : Spread
+leadLag = record { base = ofBits binary32 0x3c03_126f; span = ofBits binary32 0x3c65_6042 }
+
+-- 0.92 and 0.16
+abbrev pub leadAccent : Spread
+leadAccent = record { base = ofBits binary32 0x3f6b_851f; span = ofBits binary32 0x3e23_d70a }
+
+abbrev pub onGridOf : LeadNote → Float → Float
+onGridOf x beatS = add binary32 (mul binary32 (f32Of (x .bar)) (barSOf beatS)) (mul binary32 (x .beat) beatS)
+
+-- one note more: its lag is drawn, then its accent
+unfoldable pub playOf : Sung → Float → Float → LeadLane → ℕ → LeadLane
+playOf m beatS dur l i =
+    let x = getD (m .notes) i pastLead in
+    let d = afterOf leadLag (onGridOf x beatS) (l .stream) in
+    let e = drawOf leadAccent (d .stream) in
+    record {
+      notes = set (l .notes) (l .count) (record { bar = x .bar; at = d .value; midi = x .note; vel = mul binary32 (x .vel) (e .value); dur = dur });
+      count = l .count + 1;
+      stream = e .stream;
+    }
+
+-- the first i notes
+unfoldable pub playTo : Sung → Float → Float → LeadLane → ℕ → LeadLane
+playTo m beatS dur l zero = l
+playTo m beatS dur l (suc i) = playOf m beatS dur (playTo m beatS dur l i) i
+
+abbrev pub silenceOf : NoiseStream → LeadLane
+silenceOf s = record { notes = replicate 56 noNote; count = 0; stream = s }
+
+unfoldable pub playedOf : Sung → Float → Float → LeadLane
+playedOf m beatS dur = playTo m beatS dur (silenceOf (m .line .stream)) (m .count)

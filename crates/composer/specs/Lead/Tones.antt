@@ -1,0 +1,75 @@
+-- A chord's tones in the lead's window, and the one nearest to a note. Definitions only.
+use mathlib.Core.Bool.{Bool, true, false, cond, not, _&&_}
+use mathlib.Core.List.{List, [], _∷_, _++_}
+use Prim.Native.Nat.{ℕ, zero, suc, _+_, _-_, _*_, _%_}
+use lib.Dec.{leb, ltb, eqb}
+use lib.ListN.{length, take}
+use Rattle.laws.specs.Lists.{pad}
+use Rattle.composer.specs.Lead.Scale.{hasOf}
+use Rattle.composer.specs.declared.lead.tones.Tones.{Tones}
+
+-- n is c, or whole octaves above it
+abbrev pub aboveOf : ℕ → ℕ → Bool
+aboveOf c n = leb c n && eqb ((n - c) % 12) 0
+
+unfoldable pub inChordOf : List ℕ → ℕ → Bool
+inChordOf [] n = false
+inChordOf (c ∷ cs) n = cond (aboveOf c n) true (inChordOf cs n)
+
+-- n is a chord tone of the scale, and of another class than `avoid`
+unfoldable pub isSungOf : List ℕ → List ℕ → ℕ → ℕ → Bool
+isSungOf chord pool avoid n = inChordOf chord n && not (eqb (n % 12) avoid) && hasOf pool (n % 12)
+
+-- no note's class
+abbrev pub noClass : ℕ
+noClass = 12
+
+abbrev pub one : Bool → ℕ → List ℕ
+one true x = x ∷ []
+one false x = []
+
+-- those of lo, lo + 1, .. (k of them) that pass, ascending
+unfoldable pub kept : (ℕ → Bool) → ℕ → ℕ → List ℕ
+kept passes lo zero = []
+kept passes lo (suc k) = kept passes lo k ++ one (passes (lo + k)) (lo + k)
+
+-- the chord's tones of the scale from lo to hi
+unfoldable pub tonesIn : List ℕ → List ℕ → ℕ → ℕ → ℕ → List ℕ
+tonesIn chord pool avoid lo hi = kept (isSungOf chord pool avoid) lo (hi + 1 - lo)
+
+-- a list of at most 20 in the struct, and back
+abbrev pub packed : List ℕ → Tones
+packed xs = record { at = pad 0 20 xs; n = length xs }
+
+abbrev pub listed : Tones → List ℕ
+listed t = take (t .n) (t .at)
+
+abbrev pub tonesInOf : List ℕ → List ℕ → ℕ → ℕ → ℕ → Tones
+tonesInOf chord pool avoid lo hi = packed (tonesIn chord pool avoid lo hi)
+
+-- the tones without the root, where there are any
+abbrev pub strongOf : Tones → Tones → Tones
+strongOf tones rootless = cond (eqb (rootless .n) 0) tones rootless
+
+abbrev pub distanceOf : ℕ → ℕ → ℕ
+distanceOf a b = a - b + (b - a)
+
+-- by distance first, then by height: notes are below 256
+abbrev pub rankOf : ℕ → ℕ → ℕ
+rankOf target x = distanceOf x target * 256 + x
+
+abbrev pub closerOf : ℕ → ℕ → ℕ → ℕ
+closerOf target best x = cond (ltb (rankOf target x) (rankOf target best)) x best
+
+unfoldable pub closest : ℕ → ℕ → List ℕ → ℕ
+closest target best [] = best
+closest target best (x ∷ xs) = closest target (closerOf target best x) xs
+
+-- the nearest of a list that has one; ties low
+unfoldable pub nearestOf : List ℕ → ℕ → ℕ
+unfolding closest
+nearestOf [] target = 0
+nearestOf (x ∷ xs) target = closest target x xs
+
+abbrev pub nearOf : Tones → ℕ → ℕ
+nearOf t target = nearestOf (listed t) target
