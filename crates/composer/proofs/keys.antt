@@ -1,0 +1,4 @@
+pub mod DrawLaws
+pub mod NoteLaws
+pub mod ShellLaws
+pub mod StrokeLaws
