@@ -1,0 +1,4 @@
+pub mod BarsLaws
+pub mod DrawsLaws
+pub mod GroovesLaws
+pub mod KitLaws

@@ -1,0 +1,42 @@
+-- Each call is its definition. Assumes nothing.
+use Rattle.composer.specs.Drums.Kit.{pushKickOf}
+use borrow.Author.Needs.{needs}
+use Rattle.composer.proofs.drums.kit.push_kick.Statement.{statement}
+use Rattle.composer.proofs.drums.kit.push_kick.Tie as tie
+
+kick-beat-requires : tie.Need-kick-beat-requires
+kick-beat-requires c κs = search needs
+
+kick-slot-requires : tie.Need-kick-slot-requires
+kick-slot-requires c κs = search needs
+
+draw-requires : tie.Need-draw-requires
+draw-requires c κs = search needs
+
+held-at-zero-requires : tie.Need-held-at-zero-requires
+held-at-zero-requires c κs = search needs
+
+draw-requires-2 : tie.Need-draw-requires-2
+draw-requires-2 c κs = search needs
+
+struck-requires : tie.Need-struck-requires
+struck-requires c κs = search needs
+
+returns : tie.Need-returns
+unfolding pushKickOf
+returns c =
+    let a = c .before .before .before .before in
+    let j = a .before .before .before in
+    rw (c .struck .ensures, a .draw2 .ensures, a .before .held-at-zero .ensures, j .draw .ensures, j .before .kick-slot .ensures, j .before .before .kick-beat .ensures)
+
+pub push-kick-spec : {M : Type 1} → statement M
+push-kick-spec =
+    tie.close
+    (tie.spec
+    kick-beat-requires
+    kick-slot-requires
+    draw-requires
+    held-at-zero-requires
+    draw-requires-2
+    struck-requires
+    returns)

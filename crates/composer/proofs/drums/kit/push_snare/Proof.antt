@@ -1,0 +1,38 @@
+-- Each call is its definition. Assumes nothing.
+use Rattle.composer.specs.Drums.Kit.{pushSnareOf}
+use borrow.Author.Needs.{needs}
+use Rattle.composer.proofs.drums.kit.push_snare.Statement.{statement}
+use Rattle.composer.proofs.drums.kit.push_snare.Tie as tie
+
+draw-requires : tie.Need-draw-requires
+draw-requires c κs = search needs
+
+at-requires : tie.Need-at-requires
+at-requires c κs = search needs
+
+held-at-zero-requires : tie.Need-held-at-zero-requires
+held-at-zero-requires c κs = search needs
+
+draw-requires-2 : tie.Need-draw-requires-2
+draw-requires-2 c κs = search needs
+
+struck-requires : tie.Need-struck-requires
+struck-requires c κs = search needs
+
+returns : tie.Need-returns
+unfolding pushSnareOf
+returns c =
+    let a = c .before .before .before in
+    let t = a .before .before .before in
+    rw (c .struck .ensures, a .draw2 .ensures, a .before .held-at-zero .ensures, t .at .ensures, t .before .draw .ensures)
+
+pub push-snare-spec : {M : Type 1} → statement M
+push-snare-spec =
+    tie.close
+    (tie.spec
+    draw-requires
+    at-requires
+    held-at-zero-requires
+    draw-requires-2
+    struck-requires
+    returns)
