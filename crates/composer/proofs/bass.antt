@@ -1,0 +1,4 @@
+pub mod BassLaws
+pub mod LineLaws
+pub mod PromiseLaws
+pub mod RhythmLaws

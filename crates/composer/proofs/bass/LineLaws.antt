@@ -1,0 +1,79 @@
+-- A bar's notes: each is a note of that bar, on its root, its fifth or the note under the next root, and the count grows by
+-- one with each. Assumes nothing.
+use mathlib.Core.Path.{_≡_, refl}
+use mathlib.Core.Bool.{Bool, true, false, cond, _&&_}
+use Prim.Native.Nat.{ℕ, zero, suc, _+_, _≤_, _<_}
+use native.Mathlib.Omega.{arith}
+use lib.Dec.{eqb, ltb}
+use lib.ListN.{getD, length}
+use lib.Ieee.{Float}
+use Rattle.laws.proofs.Bools.{either}
+use Rattle.laws.proofs.Lanes.{Grown, grown-none, grown-push, grown-then}
+use Rattle.streams.specs.Draw.{chanceOf}
+use Rattle.streams.specs.declared.stream.NoiseStream.{NoiseStream}
+use Rattle.composer.specs.Note.{pastNote}
+use Rattle.composer.specs.Bass.Line.{struckOf, rootNoteOf, pickupNoteOf, laterPitchOf, laterNoteOf, pickupDrawnOf, noteDrawnOf, onsetOf, gapOf, heldOf, playOf, barPlayed, Playable}
+use Rattle.composer.specs.Bass.Promise.{Sounds, is-root, is-fifth, is-under}
+use Rattle.composer.specs.declared.note.Note.{Note}
+use Rattle.composer.specs.declared.style.BassStyle.{BassStyle}
+use Rattle.composer.specs.declared.bass.BassLane.{BassLane}
+use Rattle.composer.specs.declared.bass.line.BarPart.{BarPart}
+use Rattle.composer.specs.declared.bass.line.Strike.{Strike}
+
+-- a note of the bar that is played from p
+abbrev pub NoteOf : BarPart → Note → Type 0
+NoteOf p n = (n .bar ≡ p .bar) × Sounds (p .«root_pc») (p .«next_pc») (n .midi)
+
+module _ (p : BarPart) (playable : Playable p) (style : BassStyle) where
+  abbrev InBar : ℕ → Type 0
+  InBar midi = Sounds (p .«root_pc») (p .«next_pc») midi
+
+  root-sounds : (s : NoiseStream) (on : Float) → InBar (rootNoteOf s on p style .midi)
+  unfolding rootNoteOf struckOf
+  root-sounds s on = is-root (omega (arith, playable .root-lt))
+
+  pickup-sounds : (s : NoiseStream) (on : Float) → InBar (pickupNoteOf s on p .midi)
+  unfolding pickupNoteOf struckOf
+  pickup-sounds s on = is-under (omega (arith, playable .next-lt))
+
+  later-pitch-sounds : (fifth : Bool) → InBar (laterPitchOf (p .«root_pc») fifth)
+  later-pitch-sounds true = is-fifth (omega (arith, playable .root-lt))
+  later-pitch-sounds false = is-root (omega (arith, playable .root-lt))
+
+  later-sounds : (s : NoiseStream) (on : Float) → InBar (laterNoteOf s on p style .midi)
+  unfolding laterNoteOf struckOf
+  later-sounds s on = later-pitch-sounds (chanceOf s (style .«fifth_p») .value)
+
+  note-sounds : (s : NoiseStream) (on : Float) (i : ℕ) → InBar (noteDrawnOf s on p style i .midi)
+  unfolding noteDrawnOf
+  note-sounds s on i =
+      let c = pickupDrawnOf s p style i in
+      let later = laterNoteOf (c .stream) on p style in
+      let pickup = pickupNoteOf (c .stream) on p in
+      either (λ (x : Strike). InBar (x .midi)) (eqb i 0) (rootNoteOf s on p style) (cond (c .value && ltb (p .bar) 7) pickup later) (root-sounds s on)
+      (either (λ (x : Strike). InBar (x .midi)) (c .value && ltb (p .bar) 7) pickup later (pickup-sounds (c .stream) on) (later-sounds (c .stream) on))
+
+  play-grown : (l : BassLane) (beatS : Float) (i : ℕ) → l .count < length (l .notes)
+      → Grown pastNote (NoteOf p) (l .notes) (playOf l p style beatS i .notes) (l .count) (playOf l p style beatS i .count)
+  unfolding playOf
+  play-grown l beatS i room =
+      let on = onsetOf beatS (p .bar) (getD (p .steps .at) i 0) in
+      let d = noteDrawnOf (l .stream) on p style i in
+      grown-push pastNote (NoteOf p) (l .notes) (l .count) (record { bar = p .bar; at = d .at; midi = d .midi; vel = d .vel; dur = heldOf beatS (gapOf p i) (d .at) }) room
+      (refl, note-sounds (l .stream) on i)
+
+module _ (l : BassLane) (p : BarPart) (style : BassStyle) (beatS : Float) where
+  pub bar-count : (i : ℕ) → barPlayed l p style beatS i .count ≡ l .count + i
+  unfolding barPlayed playOf
+  bar-count zero = omega arith
+  bar-count (suc i) = omega (arith, bar-count i)
+
+  pub bar-grown : Playable p → (i : ℕ) → l .count + i ≤ length (l .notes)
+      → Grown pastNote (NoteOf p) (l .notes) (barPlayed l p style beatS i .notes) (l .count) (barPlayed l p style beatS i .count)
+  unfolding barPlayed
+  bar-grown playable zero room = grown-none pastNote (NoteOf p) (l .notes) (l .count)
+  bar-grown playable (suc i) room =
+      let before = barPlayed l p style beatS i in
+      let g = bar-grown playable i (omega arith) in
+      grown-then pastNote (NoteOf p) (l .notes) (before .notes) (playOf before p style beatS i .notes) (l .count) (before .count) (playOf before p style beatS i .count) g
+      (play-grown p playable style before beatS i (omega (arith, bar-count i, g .size)))

@@ -1,0 +1,169 @@
+// A bar's rhythm: the 16ths from its downbeat on which the bass starts a note.
+ghost use mathlib.Core.Path.{_≡_};
+ghost use Prim.Native.Nat.{_+_, _≤_, _<_};
+ghost use Rattle.composer.specs.Bass.Rhythm.{firstBeatSum, rootStepOf, oneStepOf, bassRhythmOf, oneRhythmOf, bassRhythmsOf};
+use streams::draw::chance;
+use streams::stream::NoiseStream;
+
+// The first n of `at`: the root's step, in the first beat, then the later ones that sound.
+pub struct Steps {
+    pub at: [u8; 13],
+    pub n: usize,
+}
+
+// The root's step, and the stream after its draws.
+pub struct RootDraw {
+    pub step: u8,
+    pub stream: NoiseStream,
+}
+
+// A bar's steps so far, and the stream after their draws.
+pub struct StepsDraw {
+    pub steps: Steps,
+    pub stream: NoiseStream,
+}
+
+// The rhythms of all bars, and the stream after their draws.
+pub struct Rhythms {
+    pub bars: [Steps; 8],
+    pub stream: NoiseStream,
+}
+
+// For each 16th from the downbeat, the chance that a note starts there.
+const BASS_STEP_P: [f32; 16] = [
+    0.392,
+    0.226,
+    0.122,
+    0.111,
+    0.191,
+    0.119,
+    0.163,
+    0.117,
+    0.210,
+    0.150,
+    0.128,
+    0.133,
+    0.191,
+    0.131,
+    0.130,
+    0.125,
+];
+
+// The chances of the first beat, added one by one.
+fn first_beat_sum() -> f32
+    ensures { λ r. ⌜ r ≡ firstBeatSum ⌝ }
+{
+    0.0 + BASS_STEP_P[0] + BASS_STEP_P[1] + BASS_STEP_P[2] + BASS_STEP_P[3]
+}
+
+// The first step of the beat that its chance over those left takes; the last is drawn too, and taken anyway.
+fn root_step(s: NoiseStream) -> RootDraw
+    ensures { λ r. ⌜ r ≡ rootStepOf s ⌝ }
+    ensures { λ r. ⌜ r .step < 4 ⌝ }
+{
+    let mut left = first_beat_sum();
+    let mut stream = s;
+    let mut i: usize = 0;
+    while i < 3 {
+        let p = BASS_STEP_P[i];
+        let c = chance(stream, p / left);
+        let next = c.stream;
+        if c.value {
+            return RootDraw {
+                step: i as u8,
+                stream: next,
+            };
+        }
+        left = left - p;
+        stream = next;
+        i += 1;
+    }
+    let c = chance(stream, BASS_STEP_P[3] / left);
+    let next = c.stream;
+    RootDraw {
+        step: 3,
+        stream: next,
+    }
+}
+
+// A later step, if it sounds.
+fn one_step(d: StepsDraw, step: u8) -> StepsDraw
+    requires { ⌜ (step < 16) × (d .steps .n < 13) ⌝ }
+    ensures { λ r. ⌜ r ≡ oneStepOf d step ⌝ }
+    ensures { λ r. ⌜ r .steps .n ≤ d .steps .n + 1 ⌝ }
+{
+    let s = d.stream;
+    let c = chance(s, BASS_STEP_P[step as usize]);
+    let next = c.stream;
+    let steps = d.steps;
+    if c.value {
+        let n = steps.n;
+        let mut at = steps.at;
+        at[n] = step;
+        let more = Steps { at: at, n: n + 1 };
+        StepsDraw {
+            steps: more,
+            stream: next,
+        }
+    } else {
+        StepsDraw {
+            steps: steps,
+            stream: next,
+        }
+    }
+}
+
+// The root's step, then each of steps 4 to 15 by its chance.
+fn bass_rhythm(s: NoiseStream) -> StepsDraw
+    ensures { λ r. ⌜ r ≡ bassRhythmOf s ⌝ }
+{
+    let root = root_step(s);
+    let next = root.stream;
+    let steps = Steps {
+        at: [root.step, 0, 0, 0, 0, 0, 0, 0, 0, 0, 0, 0, 0],
+        n: 1,
+    };
+    let mut out = StepsDraw {
+        steps: steps,
+        stream: next,
+    };
+    for i in 0..12u8 {
+        out = one_step(out, i + 4);
+    }
+    out
+}
+
+// Bar b's rhythm.
+fn one_rhythm(r: Rhythms, b: usize) -> Rhythms
+    requires { ⌜ b < 8 ⌝ }
+    ensures { λ r2. ⌜ r2 ≡ oneRhythmOf r b ⌝ }
+{
+    let s = r.stream;
+    let d = bass_rhythm(s);
+    let steps = d.steps;
+    let next = d.stream;
+    let mut bars = r.bars;
+    bars[b] = steps;
+    Rhythms {
+        bars: bars,
+        stream: next,
+    }
+}
+
+// The rhythms of all eight bars, one after the other.
+pub(crate) fn bass_rhythms(s: NoiseStream) -> Rhythms
+    ensures { λ r. ⌜ r ≡ bassRhythmsOf s ⌝ }
+{
+    let z = Steps {
+        at: [0u8; 13],
+        n: 0,
+    };
+    let mut out = Rhythms {
+        bars: [z; 8],
+        stream: s,
+    };
+    for b in 0..8usize {
+        out = one_rhythm(out, b);
+    }
+    out
+}
