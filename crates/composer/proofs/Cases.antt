@@ -2,10 +2,18 @@
 use mathlib.Core.Path.{_≡_, ap}
 use mathlib.Core.List.{List, map, _++_}
 use Prim.Native.Nat.{ℕ}
+use lib.Ieee.{ofBits, toBits}
+use Rattle.laws.specs.Floats.{roundOf}
+use Rattle.laws.specs.Lists.{pad}
+use Rattle.laws.specs.Sorts.{insert, sort}
 use Rattle.streams.proofs.Cases.{draws-checked}
 use Rattle.composer.specs.Form.Body.{cutHeard, bodyBarOf}
+use Rattle.composer.specs.Lead.Beats.{nearOf, thinOf, settled}
+use Rattle.composer.specs.Lead.Rhythm.{fallbackOf}
+use Rattle.composer.specs.Lead.Scale.{hasOf, fitsOf, snapFrom, snappedOf}
+use Rattle.composer.specs.Lead.Tones.{nearestOf}
 use Rattle.composer.specs.Cases.{composerCases, checkedCases}
 
 pub checked : map (λ c. c .given) checkedCases ≡ map (λ c. c .wanted) checkedCases
-unfolding bodyBarOf cutHeard
+unfolding settled sort insert thinOf nearOf snappedOf snapFrom fitsOf hasOf nearestOf roundOf fallbackOf pad bodyBarOf cutHeard ofBits toBits
 checked = ap (λ (rows : List (List ℕ)). rows ++ map (λ c. c .wanted) composerCases) draws-checked

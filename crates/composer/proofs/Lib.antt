@@ -1,6 +1,10 @@
 pub mod BandLaws
 pub mod Cases
 pub mod ChordLaws
+pub mod ComposeLaws
+pub mod DrumsLaws
 pub mod HarmonyLaws
+pub mod KicksLaws
 pub mod SpreadLaws
 pub mod TempoLaws
+pub mod VoiceLaws

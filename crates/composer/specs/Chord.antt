@@ -23,6 +23,10 @@ degreeAt d = getD degrees d (record { «root_pc» = 0; third = 0; seventh = 0 })
 abbrev pub pastChord : Chord
 pastChord = record { notes = []; «root_pc» = 0 }
 
+-- an entry that is not set
+abbrev pub noChord : Chord
+noChord = record { notes = 0 ∷ 0 ∷ 0 ∷ 0 ∷ []; «root_pc» = 0 }
+
 -- the pitch with class pc in the octave from lo up
 abbrev pub inOctaveFrom : ℕ → ℕ → ℕ
 inOctaveFrom lo pc = lo + (pc + 12 - lo % 12) % 12

@@ -94,10 +94,6 @@ chordIn key d = voicedOf (degreeAt d) key
 unfoldable pub chordsOf : ℕ → List ℕ → List Chord
 chordsOf key row = map (chordIn key) row
 
--- an array's entries before they are set
-abbrev pub noChord : Chord
-noChord = record { notes = 0 ∷ 0 ∷ 0 ∷ 0 ∷ []; «root_pc» = 0 }
-
 unfoldable pub harmonyIn : Bool → ℕ → ℕ → Harmony
 harmonyIn major row key = record { scale = melodyPcsOf key major; bars = chordsOf key (loopAt major row) }
 

@@ -1,4 +1,5 @@
 -- Notes and drum hits: an unused entry of a lane, and what stands past an array's end. Definitions only.
+use Prim.Native.Nat.{ℕ}
 use lib.Ieee.{Float, nan, binary32, ofBits}
 use Rattle.composer.specs.declared.note.Note.{Note}
 use Rattle.composer.specs.declared.note.Hit.{Hit}
@@ -18,3 +19,9 @@ noHit = record { bar = 0; at = zero32; kind = DrumKind.Kick; gain = zero32 }
 
 abbrev pub pastHit : Hit
 pastHit = record { bar = 0; at = nan; kind = DrumKind.Kick; gain = nan }
+
+abbrev pub noteBar : Note → ℕ
+noteBar x = x .bar
+
+abbrev pub hitBar : Hit → ℕ
+hitBar x = x .bar

@@ -4,6 +4,7 @@ use Rattle.composer.specs.declared.refusal.Refusal.{Refusal}
 use Rattle.composer.specs.declared.refusal.Outcome.{Outcome}
 
 abbrev pub numberOf : Refusal → ℕ
+numberOf Refusal.UnknownStyle = 1
 numberOf Refusal.NoSuchBar = 3
 numberOf Refusal.Malformed = 4
 

@@ -23,6 +23,12 @@ pub struct Chord {
     pub root_pc: u8,
 }
 
+// An entry that is not set.
+pub const NO_CHORD: Chord = Chord {
+    notes: [0, 0, 0, 0],
+    root_pc: 0,
+};
+
 // C, D minor, E minor, F, G, A minor.
 const DEGREES: [Degree; 6] = [
     Degree {

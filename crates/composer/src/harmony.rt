@@ -4,6 +4,7 @@ ghost use Prim.Native.Nat.{ℕ, _<_};
 ghost use lib.ListN.{getD};
 ghost use Rattle.composer.specs.Harmony.{rowsOf, loopAt, classIn, melodyPcsOf, chordsOf, notesOf, harmonyOf};
 use crate::chord::Chord;
+use crate::chord::NO_CHORD;
 use crate::chord::OCTAVE;
 use crate::chord::voiced;
 use crate::style::Style;
@@ -121,11 +122,7 @@ fn chords(key: u8, row: [u8; 8]) -> [Chord; 8]
     requires { ⌜ ((k : ℕ) → k < 8 → getD row k 0 < 6) ⌝ }
     ensures { λ r. ⌜ r ≡ chordsOf key row ⌝ }
 {
-    let z = Chord {
-        notes: [0, 0, 0, 0],
-        root_pc: 0,
-    };
-    let mut out = [z; 8];
+    let mut out = [NO_CHORD; 8];
     for k in 0..8usize {
         out[k] = voiced(row[k], key);
     }

@@ -3,6 +3,7 @@ ghost use mathlib.Core.Path.{_≡_};
 ghost use Rattle.composer.specs.Refusal.{numberOf};
 
 pub enum Refusal {
+    UnknownStyle,
     NoSuchBar,
     Malformed,
 }
@@ -13,6 +14,7 @@ impl Refusal {
         ensures { λ r. ⌜ r ≡ numberOf self ⌝ }
     {
         match self {
+            Refusal::UnknownStyle => 1,
             Refusal::NoSuchBar => 3,
             Refusal::Malformed => 4,
         }

@@ -6,7 +6,8 @@ use native.Mathlib.Omega.{arith}
 use lib.ListN.{length, take}
 use Rattle.laws.specs.Lists.{pad}
 use Rattle.laws.proofs.Lists.{map-start, map-on, map-full}
-use Rattle.composer.specs.Harmony.{chordIn, noChord, chordsOf}
+use Rattle.composer.specs.Chord.{noChord}
+use Rattle.composer.specs.Harmony.{chordIn, chordsOf}
 use borrow.Author.Needs.{needs}
 use Rattle.composer.proofs.harmony.chords.Statement.{statement}
 use Rattle.composer.proofs.harmony.chords.Tie as tie

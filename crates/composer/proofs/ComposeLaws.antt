@@ -1,0 +1,87 @@
+-- Any other style is refused, and what holds of every song: each stage's laws, at its own stream. Assumes nothing.
+use mathlib.Core.Path.{_≡_, refl, sym, subst}
+use mathlib.Core.Bool.{Bool, true, false}
+use Prim.Native.Nat.{ℕ, zero, suc, _≤_}
+use native.Mathlib.Omega.{arith}
+use lib.Ieee.{Float}
+use Rattle.laws.specs.Lists.{pad}
+use Rattle.streams.specs.Stage.{streamOf}
+use Rattle.streams.specs.declared.stage.Stage.{Stage}
+use Rattle.composer.specs.Compose.{beatSOf, stagesOf, composedOf, refusedOf, composeOf}
+use Rattle.composer.specs.Harmony.{melodyPcsOf, harmonyOf, Tonal}
+use Rattle.composer.specs.Promise.{Sings, ScorePromise, DrawsPromise, SongPromise}
+use Rattle.composer.specs.Tempo.{beatsOf, tempoOf}
+use Rattle.composer.specs.declared.harmony.Harmony.{Harmony}
+use Rattle.composer.specs.declared.harmony.Scale.{Scale}
+use Rattle.composer.specs.declared.refusal.Refusal.{Refusal}
+use Rattle.composer.specs.declared.style.Style.{Style}
+use Rattle.composer.proofs.DrumsLaws.{drums-laid, drums-occur, drums-counter}
+use Rattle.composer.proofs.HarmonyLaws.{harmony-tonal, harmony-counter, tonal-root}
+use Rattle.composer.proofs.TempoLaws.{tempo-within, tempo-counter}
+use Rattle.composer.proofs.VoiceLaws.{voice-counter}
+use Rattle.composer.proofs.bass.PromiseLaws.{bass-laid, bass-occur, bass-sounds}
+use Rattle.composer.proofs.keys.DrawLaws.{keys-counter}
+use Rattle.composer.proofs.keys.NoteLaws.{keys-laid}
+use Rattle.composer.proofs.lead.LeadLaws.{lead-laid, lead-fits}
+
+pub unknown-style : (style seed : ℕ) → 2 ≤ style → composeOf style seed ≡ refusedOf Refusal.UnknownStyle
+unknown-style zero seed h = absurd (omega arith)
+unknown-style (suc zero) seed h = absurd (omega arith)
+unknown-style (suc (suc n)) seed h = refl
+
+-- five classes, or six
+pcs-least : (key : ℕ) (major : Bool) → 5 ≤ melodyPcsOf key major .n
+unfolding melodyPcsOf
+pcs-least key true = omega arith
+pcs-least key false = omega arith
+
+pcs-most : (key : ℕ) (major : Bool) → melodyPcsOf key major .n ≤ 6
+unfolding melodyPcsOf
+pcs-most key true = omega arith
+pcs-most key false = omega arith
+
+module _ (style : Style) (seed : ℕ) where
+  abbrev harmony : Harmony
+  harmony = harmonyOf (streamOf Stage.Harmony seed) style .harmony
+
+  abbrev beatS : Float
+  beatS = beatSOf (tempoOf (streamOf Stage.Tempo seed) style .value)
+
+  tonal : Tonal harmony
+  tonal = harmony-tonal (streamOf Stage.Harmony seed) style
+
+  score-promise : ScorePromise style (composedOf style seed .score) (composedOf style seed .scale)
+  unfolding composedOf stagesOf tempoOf
+  score-promise =
+      let within = tempo-within (streamOf Stage.Tempo seed) style in
+      record {
+        beats = beatsOf (streamOf Stage.Tempo seed) style;
+        tempo = refl;
+        tempo-least = within .0;
+        tempo-most = within .1;
+        chords = tonal-root harmony tonal;
+        lead = lead-laid (streamOf Stage.Lead seed) harmony tonal style beatS;
+        keys = keys-laid (streamOf Stage.Keys seed) harmony style beatS;
+        hits = drums-laid (streamOf Stage.Drums seed) style beatS;
+        bass = bass-laid (streamOf Stage.Bass seed) harmony style beatS tonal;
+        hit-in-each = drums-occur (streamOf Stage.Drums seed) style beatS;
+        bass-in-each = bass-occur (streamOf Stage.Bass seed) harmony style beatS tonal;
+        lead-sings = λ i h. let f = lead-fits (streamOf Stage.Lead seed) harmony tonal style beatS i h in record { least = f .0; most = f .1; class = f .2 };
+        bass-sounds = bass-sounds (streamOf Stage.Bass seed) harmony style beatS tonal;
+        scale-least = subst (λ (x : Scale). 5 ≤ x .n) (sym (tonal .scale)) (pcs-least (tonal .key) (tonal .major));
+        scale-most = subst (λ (x : Scale). x .n ≤ 6) (sym (tonal .scale)) (pcs-most (tonal .key) (tonal .major));
+      }
+
+  draws-promise : DrawsPromise style (composedOf style seed .score) (composedOf style seed .counters)
+  unfolding composedOf stagesOf
+  draws-promise = record {
+    harmony = harmony-counter seed style;
+    tempo = tempo-counter seed style;
+    keys = keys-counter harmony beatS seed style;
+    drums = drums-counter seed style beatS;
+    voice = voice-counter seed style;
+  }
+
+  pub song-promise : SongPromise style (composedOf style seed)
+  unfolding composedOf
+  song-promise = record { done = refl; score = score-promise; draws = draws-promise }

@@ -1,0 +1,61 @@
+-- What holds of the song of every seed, in both styles. Definitions only.
+use mathlib.Core.Path.{_≡_}
+use mathlib.Core.Bool.{true}
+use Prim.Native.Nat.{ℕ, _%_, _≤_, _<_}
+use lib.ListN.{getD}
+use Rattle.laws.specs.Floats.{f32Of}
+use Rattle.laws.specs.Lanes.{Occurs, Laid}
+use Rattle.composer.specs.Bass.Promise.{SoundsIn}
+use Rattle.composer.specs.Chord.{pastChord, RootPosition}
+use Rattle.composer.specs.Drums.{drumDrawsOf}
+use Rattle.composer.specs.Keys.{keyDrawsOf}
+use Rattle.composer.specs.Lead.Scale.{hasOf, poolOf}
+use Rattle.composer.specs.Note.{noNote, pastNote, noteBar, noHit, pastHit, hitBar}
+use Rattle.composer.specs.Style.{leadStyleOf}
+use Rattle.composer.specs.Tempo.{slowestOf, fastestOf}
+use Rattle.composer.specs.declared.compose.Composed.{Composed}
+use Rattle.composer.specs.declared.harmony.Scale.{Scale}
+use Rattle.composer.specs.declared.refusal.Outcome.{Outcome}
+use Rattle.composer.specs.declared.score.Counters.{Counters}
+use Rattle.composer.specs.declared.score.Score.{Score}
+use Rattle.composer.specs.declared.style.Style.{Style}
+
+-- a note in the style's window, its class in the scale
+pub record Sings (style : Style) (scale : Scale) (midi : ℕ) : Type 0 where
+  pub least : leadStyleOf style .lo ≤ midi
+  pub most : midi ≤ leadStyleOf style .hi
+  pub class : hasOf (poolOf scale) (midi % 12) ≡ true
+
+pub record ScorePromise (style : Style) (score : Score) (scale : Scale) : Type 0 where
+  -- the tempo is a whole number, within the style's window
+  pub beats : ℕ
+  pub tempo : score .bpm ≡ f32Of beats
+  pub tempo-least : slowestOf style ≤ beats
+  pub tempo-most : beats ≤ fastestOf style
+  pub chords : (b : ℕ) → b < 8 → RootPosition (getD (score .«bar_chords») b pastChord)
+  -- each lane within its capacity, in the order of its bars 0 to 7, unused entries zero
+  pub lead : Laid pastNote noNote noteBar 56 7 (score .lead) (score .«lead_count»)
+  pub keys : Laid pastNote noNote noteBar 128 7 (score .keys) (score .«keys_count»)
+  pub hits : Laid pastHit noHit hitBar 98 7 (score .hits) (score .«hit_count»)
+  pub bass : Laid pastNote noNote noteBar 104 7 (score .bass) (score .«bass_count»)
+  -- every loop bar has a hit and a bass note
+  pub hit-in-each : (b : ℕ) → b < 8 → Occurs (λ i. hitBar (getD (score .hits) i pastHit)) (score .«hit_count») b
+  pub bass-in-each : (b : ℕ) → b < 8 → Occurs (λ i. noteBar (getD (score .bass) i pastNote)) (score .«bass_count») b
+  pub lead-sings : (i : ℕ) → i < score .«lead_count» → Sings style scale (getD (score .lead) i pastNote .midi)
+  pub bass-sounds : (i : ℕ) → i < score .«bass_count» → SoundsIn (score .«bar_chords») (getD (score .bass) i pastNote)
+  -- five or six pitch classes
+  pub scale-least : 5 ≤ scale .n
+  pub scale-most : scale .n ≤ 6
+
+-- the counters are the draws of each stage
+pub record DrawsPromise (style : Style) (score : Score) (counters : Counters) : Type 0 where
+  pub harmony : counters .harmony ≡ 3
+  pub tempo : counters .tempo ≡ 1
+  pub keys : counters .keys ≡ keyDrawsOf style (score .«keys_count»)
+  pub drums : counters .drums ≡ drumDrawsOf style (score .«hit_count»)
+  pub voice : counters .voice ≡ 1
+
+pub record SongPromise (style : Style) (c : Composed) : Type 0 where
+  pub done : c .outcome ≡ Outcome.Done
+  pub score : ScorePromise style (c .score) (c .scale)
+  pub draws : DrawsPromise style (c .score) (c .counters)

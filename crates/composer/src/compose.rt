@@ -1,0 +1,201 @@
+// A song of a style and a seed: each stage draws from its own stream.
+ghost use mathlib.Core.Path.{_≡_};
+ghost use Rattle.composer.specs.Compose.{stagesOf, scoreBy, countersBy, composedOf, noScore, refusedOf, composeOf};
+use crate::bass::BassLane;
+use crate::bass::bass;
+use crate::chord::NO_CHORD;
+use crate::drums::DrumLane;
+use crate::drums::drums;
+use crate::harmony::HarmonyDraw;
+use crate::harmony::Scale;
+use crate::harmony::harmony_of;
+use crate::keys::KeysLane;
+use crate::keys::keys;
+use crate::lead::LeadLane;
+use crate::lead::lead;
+use crate::note::NO_HIT;
+use crate::note::NO_NOTE;
+use crate::refusal::Outcome;
+use crate::refusal::Refusal;
+use crate::score::Counters;
+use crate::score::Score;
+use crate::spread::Drawn;
+use crate::style::Style;
+use crate::tempo::tempo;
+use crate::voice::LeadVoice;
+use crate::voice::VoiceDraw;
+use crate::voice::lead_voice;
+use streams::stage::Stage;
+
+// A song's score, the scale that its lead sings and the counters of its seven streams, or why there is none.
+pub struct Composed {
+    pub outcome: Outcome,
+    pub score: Score,
+    pub scale: Scale,
+    pub counters: Counters,
+}
+
+// What each stage has drawn.
+pub struct Stages {
+    pub harmony: HarmonyDraw,
+    pub tempo: Drawn,
+    pub lead: LeadLane,
+    pub keys: KeysLane,
+    pub drums: DrumLane,
+    pub bass: BassLane,
+    pub voice: VoiceDraw,
+}
+
+fn stages_of(style: Style, seed: u64) -> Stages
+    ensures { λ r. ⌜ r ≡ stagesOf style seed ⌝ }
+{
+    let hs = Stage::Harmony.stream(seed);
+    let hd = harmony_of(hs, style);
+    let h = hd.harmony;
+    let ts = Stage::Tempo.stream(seed);
+    let td = tempo(ts, style);
+    let beat_s = 60.0 / td.value;
+    let ls = Stage::Lead.stream(seed);
+    let ld = lead(ls, h, style, beat_s);
+    let ks = Stage::Keys.stream(seed);
+    let kd = keys(ks, h, style, beat_s);
+    let ds = Stage::Drums.stream(seed);
+    let dd = drums(ds, style, beat_s);
+    let bs = Stage::Bass.stream(seed);
+    let bd = bass(bs, h, style, beat_s);
+    let vs = Stage::LeadVoice.stream(seed);
+    let vd = lead_voice(vs, style);
+    Stages {
+        harmony: hd,
+        tempo: td,
+        lead: ld,
+        keys: kd,
+        drums: dd,
+        bass: bd,
+        voice: vd,
+    }
+}
+
+fn score_by(style: Style, t: Stages) -> Score
+    ensures { λ r. ⌜ r ≡ scoreBy style t ⌝ }
+{
+    let harmony = t.harmony.harmony;
+    let bars = harmony.bars;
+    let tempo = t.tempo;
+    let l = t.lead;
+    let lead = l.notes;
+    let k = t.keys;
+    let keys = k.notes;
+    let d = t.drums;
+    let hits = d.hits;
+    let b = t.bass;
+    let bass = b.notes;
+    let v = t.voice;
+    let voice = v.voice;
+    Score {
+        style: style,
+        bpm: tempo.value,
+        bar_chords: bars,
+        lead: lead,
+        lead_count: l.count,
+        keys: keys,
+        keys_count: k.count,
+        hits: hits,
+        hit_count: d.count,
+        bass: bass,
+        bass_count: b.count,
+        lead_voice: voice,
+    }
+}
+
+fn counters_by(t: Stages) -> Counters
+    ensures { λ r. ⌜ r ≡ countersBy t ⌝ }
+{
+    Counters {
+        harmony: t.harmony.stream.counter,
+        tempo: t.tempo.stream.counter,
+        lead: t.lead.stream.counter,
+        keys: t.keys.stream.counter,
+        drums: t.drums.stream.counter,
+        bass: t.bass.stream.counter,
+        voice: t.voice.stream.counter,
+    }
+}
+
+fn composed_of(style: Style, seed: u64) -> Composed
+    ensures { λ r. ⌜ r ≡ composedOf style seed ⌝ }
+{
+    let t = stages_of(style, seed);
+    let score = score_by(style, t);
+    let harmony = t.harmony.harmony;
+    let scale = harmony.scale;
+    let counters = counters_by(t);
+    Composed {
+        outcome: Outcome::Done,
+        score: score,
+        scale: scale,
+        counters: counters,
+    }
+}
+
+// A score with no event.
+fn no_score() -> Score
+    ensures { λ r. ⌜ r ≡ noScore ⌝ }
+{
+    let bars = [NO_CHORD; 8];
+    let lead = [NO_NOTE; 56];
+    let keys = [NO_NOTE; 128];
+    let hits = [NO_HIT; 98];
+    let bass = [NO_NOTE; 104];
+    Score {
+        style: Style::Hiphop,
+        bpm: 0.0,
+        bar_chords: bars,
+        lead: lead,
+        lead_count: 0,
+        keys: keys,
+        keys_count: 0,
+        hits: hits,
+        hit_count: 0,
+        bass: bass,
+        bass_count: 0,
+        lead_voice: LeadVoice::EpVel,
+    }
+}
+
+// A refusal, beside nothing.
+fn refused(r: Refusal) -> Composed
+    ensures { λ c. ⌜ c ≡ refusedOf r ⌝ }
+{
+    let score = no_score();
+    let scale = Scale {
+        pcs: [0, 0, 0, 0, 0, 0],
+        n: 0,
+    };
+    let counters = Counters {
+        harmony: 0,
+        tempo: 0,
+        lead: 0,
+        keys: 0,
+        drums: 0,
+        bass: 0,
+        voice: 0,
+    };
+    Composed {
+        outcome: Outcome::Refused(r),
+        score: score,
+        scale: scale,
+        counters: counters,
+    }
+}
+
+// The song of a seed in style 0 (hiphop) or 1 (sleep). Any other style is refused.
+pub fn compose(style: u8, seed: u64) -> Composed
+    ensures { λ r. ⌜ r ≡ composeOf style seed ⌝ }
+{
+    match style {
+        0 => composed_of(Style::Hiphop, seed),
+        1 => composed_of(Style::Sleep, seed),
+        _ => refused(Refusal::UnknownStyle),
+    }
+}
