@@ -3,7 +3,7 @@ use mathlib.Core.Path.{_≡_, refl}
 use mathlib.Core.Bool.{Bool, _&&_}
 use Prim.Native.Nat.{ℕ, _+_, _%_, _≤_, _<_}
 use native.Mathlib.Omega.{arith}
-use lib.Dec.{T, leb, leb→le}
+use lib.Dec.{leb, leb→le}
 use mir.Facts.{and-yes}
 use Rattle.laws.proofs.Runs.{every-at}
 use Rattle.composer.specs.Chord.{inOctaveFrom, degreeAt, voicedOf, RootPosition}

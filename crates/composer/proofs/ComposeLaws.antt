@@ -4,12 +4,11 @@ use mathlib.Core.Bool.{Bool, true, false}
 use Prim.Native.Nat.{ℕ, zero, suc, _≤_}
 use native.Mathlib.Omega.{arith}
 use lib.Ieee.{Float}
-use Rattle.laws.specs.Lists.{pad}
 use Rattle.streams.specs.Stage.{streamOf}
 use Rattle.streams.specs.declared.stage.Stage.{Stage}
 use Rattle.composer.specs.Compose.{beatSOf, stagesOf, composedOf, refusedOf, composeOf}
 use Rattle.composer.specs.Harmony.{melodyPcsOf, harmonyOf, Tonal}
-use Rattle.composer.specs.Promise.{Sings, ScorePromise, DrawsPromise, SongPromise}
+use Rattle.composer.specs.Promise.{ScorePromise, DrawsPromise, SongPromise}
 use Rattle.composer.specs.Tempo.{beatsOf, tempoOf}
 use Rattle.composer.specs.declared.harmony.Harmony.{Harmony}
 use Rattle.composer.specs.declared.harmony.Scale.{Scale}

@@ -1,8 +1,8 @@
 -- Every harmony that is drawn has a key, a loop and the key's scale, and takes three draws. Assumes nothing.
 use mathlib.Core.Path.{_≡_, refl, sym, ap, _∙_, subst}
 use mathlib.Core.Bool.{Bool, true, false}
-use mathlib.Core.List.{List, [], _∷_, map}
-use Prim.Native.Nat.{ℕ, _+_, _%_, _^_, _≤_, _<_}
+use mathlib.Core.List.{List, [], map}
+use Prim.Native.Nat.{ℕ, _+_, _%_, _^_, _<_}
 use native.Mathlib.Omega.{arith}
 use lib.Dec.{T, ltb, ltb→lt, eqb, eqb→eq}
 use lib.ListN.{getD, length, length-map, List·getD-map}
@@ -13,10 +13,10 @@ use Rattle.streams.specs.Stage.{streamOf}
 use Rattle.streams.specs.Draw.{pickOf, chanceOf}
 use Rattle.streams.specs.declared.stage.Stage.{Stage}
 use Rattle.streams.specs.declared.stream.NoiseStream.{NoiseStream}
-use Rattle.streams.proofs.StreamLaws.{after-after, after-counter}
+use Rattle.streams.proofs.StreamLaws.{after-on, after-counter}
 use Rattle.streams.proofs.StageLaws.{stream-counter}
 use Rattle.streams.proofs.DrawLaws.{pick-lt, pick-advances, chance-advances}
-use Rattle.composer.specs.Chord.{degreeAt, pastChord, voicedOf, RootPosition}
+use Rattle.composer.specs.Chord.{pastChord, RootPosition}
 use Rattle.composer.specs.Harmony.{majorLoops, minorLoops, loopsOf, rowsOf, loopAt, chordIn, chordsOf, harmonyIn, harmonyOf, Tonal}
 use Rattle.composer.specs.Style.{majorShareOf}
 use Rattle.composer.specs.declared.harmony.Harmony.{Harmony}
@@ -92,9 +92,9 @@ module _ (s : NoiseStream) (style : Style) where
   harmony-advances =
       let a = chanceOf s (majorShareOf style) in
       let b = pickOf (a .stream) (rowsOf (a .value)) in
-      pick-advances (b .stream) 12
-      ∙ ap (λ (t : NoiseStream). after t 1) (pick-advances (a .stream) (rowsOf (a .value)) ∙ ap (λ (t : NoiseStream). after t 1) (chance-advances s (majorShareOf style)) ∙ after-after s 1 1)
-      ∙ after-after s 2 1
+      let one = chance-advances s (majorShareOf style) in
+      let two = pick-advances (a .stream) (rowsOf (a .value)) ∙ after-on s (a .stream) 1 2 one refl in
+      pick-advances (b .stream) 12 ∙ after-on s (b .stream) 2 3 two refl
 
 -- three draws, always
 pub harmony-counter : (seed : ℕ) (style : Style) → harmonyOf (streamOf Stage.Harmony seed) style .stream .counter ≡ 3

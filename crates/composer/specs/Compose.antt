@@ -1,5 +1,4 @@
 -- A song of a style and a seed: each stage draws from its own stream. Definitions only.
-use mathlib.Core.List.{List, [], _∷_}
 use Prim.Native.Nat.{ℕ, zero, suc}
 use lib.ListN.{replicate}
 use lib.Ieee.{Float, binary32, ofBits, div}

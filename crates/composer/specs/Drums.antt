@@ -1,6 +1,6 @@
 -- The drums stage: a groove of the style's, laid over the loop's eight bars. Definitions only.
 use Prim.Native.Nat.{ℕ, zero, suc, _+_, _*_}
-use lib.ListN.{replicate, getD}
+use lib.ListN.{replicate}
 use lib.Ieee.{Float, binary32, ofBits, mul}
 use Rattle.laws.specs.Floats.{f32Of}
 use Rattle.streams.specs.Draw.{pickOf}

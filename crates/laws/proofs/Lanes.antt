@@ -58,11 +58,6 @@ module _ {A : Type 0} (d : A) where
     new = λ i l u. f (getD ys i d) (g .new i l u);
   }
 
-  -- what holds of each entry in use, and of each that is new
-  pub grown-all : (P : A → Type 0) (xs ys : List A) (n m : ℕ) → ((i : ℕ) → i < n → P (getD xs i d)) → Grown d P xs ys n m → (i : ℕ) → i < m → P (getD ys i d)
-  grown-all P xs ys n m all g i h =
-      ⊎-elim (λ (e : i < n). subst P (sym (g .kept i e)) (all i e)) (λ (e : n ≤ i). g .new i e h) (in-use i n)
-
   module _ (f : A → ℕ) (xs ys : List A) (n m : ℕ) where
     module _ (v : ℕ) (g : Grown d (λ a. f a ≡ v) xs ys n m) where
       grown-most : (top : ℕ) → top ≤ v → Rises (λ i. f (getD xs i d)) n top → (i : ℕ) → i < m → f (getD ys i d) ≤ v

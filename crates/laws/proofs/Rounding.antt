@@ -2,7 +2,7 @@
 use mathlib.Core.Path.{_≡_, refl, sym, ap, subst}
 use mathlib.Core.Bool.{Bool, true, false, not, cond}
 use mathlib.Core.Logic.{inl, inr}
-use Prim.Native.Nat.{ℕ, _+_, _-_, _*_, _/_, _^_, _≤_, min}
+use Prim.Native.Nat.{ℕ, _+_, _-_, _*_, _/_, _^_, _≤_}
 use native.Mathlib.Nat.{le-of-eq, le-trans, eq-or-lt-of-le, mul-one, mul-le-mul-right, div-mul-le-self, min-le-left}
 use native.Mathlib.Omega.{arith}
 use lib.Dec.{T, T-not, le→leb, lit<}

@@ -36,6 +36,10 @@ module _ (s : NoiseStream) where
   unfolding after
   after-after m n = rw (wraps m n)
 
+  -- one draw more, however it is counted
+  pub after-on : (t : NoiseStream) (m n : ℕ) → t ≡ after s m → m + 1 ≡ n → after t 1 ≡ after s n
+  after-on t m n e k = ap (λ (u : NoiseStream). after u 1) e ∙ after-after m 1 ∙ ap (after s) k
+
   -- after m draws comes draw m + 1
   pub next-u64-number : (m : ℕ) → nextU64Of (after s m) ≡ record { value = wordAt s (m + 1); stream = after s (m + 1) }
   unfolding nextU64Of after wordAt

@@ -9,6 +9,7 @@ use native.Mathlib.Omega.{arith}
 use lib.ListN.{getD, set, length, replicate, length-set}
 use lib.Seq.{getD-set-same, getD-set-other}
 use lib.Ieee.{Float, binary32, sub, div}
+use Rattle.laws.proofs.Bools.{either}
 use Rattle.streams.specs.Draw.{chanceOf}
 use Rattle.streams.specs.declared.stream.NoiseStream.{NoiseStream}
 use Rattle.composer.specs.Bass.Rhythm.{stepP, firstBeatSum, rootFrom, rootStepOf, moreSteps, oneStepOf, stepsTo, rootAlone, bassRhythmOf, noSteps, pastSteps, oneRhythmOf, rhythmsTo, bassRhythmsOf, Rising}
@@ -41,16 +42,12 @@ module _ (s : NoiseStream) (left : Float) where
   unfolding rootFrom
   root-last i e = rw e
 
-root-step-le : (b : Bool) (x y : RootDraw) (n : ℕ) → x .step ≤ n → y .step ≤ n → cond b x y .step ≤ n
-root-step-le true x y n h k = h
-root-step-le false x y n h k = k
-
 root-le : (s : NoiseStream) (left : Float) (i more : ℕ) → rootFrom s left i more .step ≤ i + more
 unfolding rootFrom
 root-le s left i zero = omega arith
 root-le s left i (suc more) =
     let next = rootFrom (passed s left i) (sub binary32 left (stepP i)) (i + 1) more in
-    root-step-le (tried s left i) (record { step = i; stream = passed s left i }) next (i + suc more) (omega arith)
+    either (λ (r : RootDraw). r .step ≤ i + suc more) (tried s left i) (record { step = i; stream = passed s left i }) next (omega arith)
     (omega (arith, root-le (passed s left i) (sub binary32 left (stepP i)) (i + 1) more))
 
 -- ---- a bar's steps
@@ -63,9 +60,6 @@ rising-wider k r h = record {
   rises = r .rises;
 }
 
-le-of-lt-suc : {a c : ℕ} → a < c + 1 → a ≤ c
-le-of-lt-suc h = omega arith
-
 module _ (t : Steps) (m step : ℕ) (r : Rising t m) (h : m ≤ step) (room : t .n < 13) where
   abbrev longer : List ℕ
   longer = set (t .at) (t .n) step
@@ -77,13 +71,13 @@ module _ (t : Steps) (m step : ℕ) (r : Rising t m) (h : m ≤ step) (room : t 
   at-other i l = getD-set-other (t .at) (t .n) i step 0 (λ e. omega arith)
 
   more-below : (i : ℕ) → i < t .n + 1 → getD longer i 0 < step + 1
-  more-below i l = elim (eq-or-lt-of-le (le-of-lt-suc l)) [
+  more-below i l = let u : i ≤ t .n = omega arith in elim (eq-or-lt-of-le u) [
     | inl e ↦ rw (e, at-last) (omega arith)
     | inr k ↦ rw (at-other i k) (omega (arith, r .below i k))
   ]
 
   more-rises : (i : ℕ) → i + 1 < t .n + 1 → getD longer i 0 < getD longer (i + 1) 0
-  more-rises i l = elim (eq-or-lt-of-le (le-of-lt-suc l)) [
+  more-rises i l = let u : i + 1 ≤ t .n = omega arith in elim (eq-or-lt-of-le u) [
     | inl e ↦ rw (at-other i (omega arith), e, at-last) (omega (arith, r .below i (omega arith)))
     | inr k ↦ rw (at-other i (omega arith), at-other (i + 1) k) (r .rises i k)
   ]

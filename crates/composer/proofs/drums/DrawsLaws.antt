@@ -11,7 +11,7 @@ use Rattle.streams.specs.Stream.{after}
 use Rattle.streams.specs.Draw.{chanceOf}
 use Rattle.streams.specs.declared.stream.NoiseStream.{NoiseStream}
 use Rattle.streams.specs.declared.draw.ChanceDraw.{ChanceDraw}
-use Rattle.streams.proofs.StreamLaws.{after-after}
+use Rattle.streams.proofs.StreamLaws.{after-on}
 use Rattle.streams.proofs.DrawLaws.{chance-advances}
 use Rattle.composer.specs.Spread.{drawOf, jitterOf}
 use Rattle.composer.specs.Drums.{wobble, barOf, layBarOf, barsTo}
@@ -34,14 +34,11 @@ chancesTo offOnly zero = 0
 chancesTo offOnly (suc e) = chancesTo offOnly e + cond (offOnly && eqb (e % 2) 0) 0 1
 
 module _ (s : NoiseStream) where
-  one-more : (t : NoiseStream) (n m : ℕ) → t ≡ after s n → n + 1 ≡ m → after t 1 ≡ after s m
-  one-more t n m e k = ap (λ (u : NoiseStream). after u 1) e ∙ after-after s n 1 ∙ ap (after s) k
-
   -- a jitter, then an accent
   hit-made : (n : ℕ) (l : DrumLane) (j : Jitter) (p : Spread) → Made s n l → drawOf p (jitterOf j (l .stream) .stream) .stream ≡ after s (n + 2 * (l .count + 1))
   hit-made n l j p m =
-      let a = jitter-advances (l .stream) j ∙ one-more (l .stream) (n + 2 * l .count) (n + 2 * l .count + 1) m refl in
-      draw-advances (jitterOf j (l .stream) .stream) p ∙ one-more (jitterOf j (l .stream) .stream) (n + 2 * l .count + 1) (n + 2 * (l .count + 1)) a (omega arith)
+      let a = jitter-advances (l .stream) j ∙ after-on s (l .stream) (n + 2 * l .count) (n + 2 * l .count + 1) m refl in
+      draw-advances (jitterOf j (l .stream) .stream) p ∙ after-on s (jitterOf j (l .stream) .stream) (n + 2 * l .count + 1) (n + 2 * (l .count + 1)) a (omega arith)
 
   kick-made : (n : ℕ) (l : DrumLane) (bar : Bar) (dragS : Float) (k : Kick) → Made s n l → Made s n (pushKickOf l bar dragS k)
   unfolding pushKickOf
@@ -71,7 +68,7 @@ module _ (s : NoiseStream) where
     made-as n m l e p = p ∙ ap (λ (k : ℕ). after s (k + 2 * l .count)) e
 
     chance-made : (n : ℕ) (l : DrumLane) → Made s n l → Made s (n + 1) (drawnOn l (chanceOf (l .stream) (g .hats .«skip_p») .stream))
-    chance-made n l m = chance-advances (l .stream) (g .hats .«skip_p») ∙ one-more (l .stream) (n + 2 * l .count) (n + 1 + 2 * l .count) m (omega arith)
+    chance-made n l m = chance-advances (l .stream) (g .hats .«skip_p») ∙ after-on s (l .stream) (n + 2 * l .count) (n + 1 + 2 * l .count) m (omega arith)
 
     lay-hat-made : (n : ℕ) (l : DrumLane) (bar : Bar) (e : ℕ) → Made s n l → Made s (n + cond (g .hats .«off_eighths_only» && eqb (e % 2) 0) 0 1) (layHatOf l g bar e)
     unfolding layHatOf
@@ -101,7 +98,7 @@ module _ (s : NoiseStream) where
         let w = drawOf wobble (l .stream) in
         let bar = barOf k beatS (w .value) in
         let a = drawnOn l (w .stream) in
-        let d = draw-advances (l .stream) wobble ∙ one-more (l .stream) (n + 2 * l .count) (n + 1 + 2 * l .count) m (omega arith) in
+        let d = draw-advances (l .stream) wobble ∙ after-on s (l .stream) (n + 2 * l .count) (n + 1 + 2 * l .count) m (omega arith) in
         hats-made (n + 1) (laySnaresOf (layKicksOf a g bar) g bar) bar 8 (snares-made (n + 1) (layKicksOf a g bar) bar (g .«snare_count») (kicks-made (n + 1) a bar d))
 
     -- k bars, each with its wobble and its eighths

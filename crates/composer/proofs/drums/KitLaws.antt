@@ -1,6 +1,6 @@
 -- How many hits a bar adds: two or three kicks, its snares, and at most eight hats. Assumes nothing.
 use mathlib.Core.Path.{_≡_, refl, sym, subst}
-use mathlib.Core.Bool.{Bool, true, _&&_, cond}
+use mathlib.Core.Bool.{true, _&&_}
 use Prim.Native.Nat.{ℕ, zero, suc, _+_, _*_, _/_, _%_, _≤_}
 use native.Mathlib.Omega.{arith}
 use borrow.Author.Tests.{eqb-true}
@@ -21,15 +21,7 @@ pub kick-count : (l : DrumLane) (bar : Bar) (dragS : Float) (k : Kick) → pushK
 unfolding pushKickOf
 kick-count l bar dragS k = refl
 
-pub snare-count : (l : DrumLane) (bar : Bar) (beat gain : Float) → pushSnareOf l bar beat gain .count ≡ l .count + 1
-unfolding pushSnareOf
-snare-count l bar beat gain = refl
-
 module _ (l : DrumLane) (g : Groove) (bar : Bar) where
-  pub hat-count : (e : ℕ) → pushHatOf l g bar e .count ≡ l .count + 1
-  unfolding pushHatOf
-  hat-count e = refl
-
   pub kicks-least : l .count + 2 ≤ layKicksOf l g bar .count
   unfolding layKicksOf pushKickOf
   kicks-least = either (λ (m : DrumLane). l .count + 2 ≤ m .count) (g .«ghost_pickup» && endsStatement bar) _ _ (omega arith) (omega arith)

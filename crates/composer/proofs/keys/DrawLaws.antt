@@ -13,7 +13,7 @@ use Rattle.streams.specs.declared.stage.Stage.{Stage}
 use Rattle.streams.specs.declared.stream.NoiseStream.{NoiseStream}
 use Rattle.streams.proofs.DrawLaws.{pick-advances, chance-advances}
 use Rattle.streams.proofs.StageLaws.{stream-counter}
-use Rattle.streams.proofs.StreamLaws.{after-after, after-counter, after-none}
+use Rattle.streams.proofs.StreamLaws.{after-on, after-counter, after-none}
 use Rattle.composer.specs.Chord.{pastChord}
 use Rattle.composer.specs.Keys.{keysLag, roll, ninthP, gridAt, emptyOf, movedOf, shellStrokeOf, singleStrokeOf, strokeBy, strokeOf, eighthOf, barTo, barOf, barsTo, densityDrawOf, keysOf, keyDrawsOf}
 use Rattle.composer.specs.Spread.{drawOf, afterOf}
@@ -30,7 +30,7 @@ use Rattle.composer.proofs.keys.StrokeLaws.{lagged, struckAt, stroke-by
 
 -- one draw more
 on : (s t u : NoiseStream) (m : ℕ) → t ≡ after s m → u ≡ after t 1 → u ≡ after s (m + 1)
-on s t u m e f = f ∙ ap (λ (x : NoiseStream). after x 1) e ∙ after-after s m 1
+on s t u m e f = f ∙ after-on s t m (m + 1) e refl
 
 -- the draws for the notes so far
 abbrev notesDraws : Comp → ℕ → ℕ

@@ -29,18 +29,16 @@ use Rattle.composer.specs.declared.lead.melody.Sung.{Sung}
 use Rattle.composer.proofs.lead.FitLaws.{fits-what}
 use Rattle.composer.proofs.lead.PitchLaws.{step-note-fits, line-fits}
 
-le-of-lt-suc : {a c : ℕ} → a < c + 1 → a ≤ c
-le-of-lt-suc k = omega arith
-
 -- ---- one note more
 module _ (pool : List ℕ) (lo hi : ℕ) where
   notes-on : (l : List LeadNote) (n : ℕ) (x : LeadNote) → n < length l → ((j : ℕ) → j < n → T (fitsOf pool lo hi (getD l j pastLead .note))) → T (fitsOf pool lo hi (x .note))
       → (j : ℕ) → j < n + 1 → T (fitsOf pool lo hi (getD (set l n x) j pastLead .note))
   notes-on l n x k ns t j h =
+      let u : j ≤ n = omega arith in
       ⊎-elim
       (λ (e : j ≡ n). rw (e, getD-set-same l n x pastLead k) t)
       (λ (e : j < n). rw (getD-set-other l n j x pastLead (λ q. omega arith)) (ns j e))
-      (eq-or-lt-of-le (le-of-lt-suc h))
+      (eq-or-lt-of-le u)
 
   first-on : (n p q : ℕ) → T (fitsOf pool lo hi q) → T (fitsOf pool lo hi (cond (eqb (n + 1) 0) p q))
   first-on n p q t = rw (add-one, eqb·suc-zero) t

@@ -6,7 +6,7 @@ use Prim.Native.Nat.{ℕ, zero, suc, _+_, _≤_, _<_}
 use native.Mathlib.Omega.{arith}
 use lib.Dec.{eqb, ltb}
 use lib.ListN.{length, getD, set, length-append, length-set}
-use lib.Ieee.{Float, nan, binary32, ofBits, ofInt, mul}
+use lib.Ieee.{Float, nan, ofBits, ofInt, mul}
 use borrow.Author.Tests.{le-ltb}
 use Rattle.laws.specs.Sorts.{All}
 use Rattle.laws.proofs.Bools.{cond-by}

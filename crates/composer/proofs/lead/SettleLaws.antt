@@ -1,5 +1,5 @@
 -- Settled beats are in order, none is near the one kept before it, and each was among the beats. Assumes nothing.
-use mathlib.Core.Path.{_≡_, refl, ap}
+use mathlib.Core.Path.{_≡_, refl}
 use mathlib.Core.Bool.{Bool, true, false, cond}
 use mathlib.Core.List.{List, [], _∷_}
 use Prim.Native.Nat.{suc, _≤_}
@@ -74,7 +74,3 @@ unfolding nearOf sub add neg lt
 none-near nan = refl
 none-near (inf s) = refl
 none-near (fin s m e) = refl
-
-pub keeps-first : (x : Float) (xs : List Float) → thinOf nan (x ∷ xs) ≡ x ∷ thinOf x xs
-unfolding thinOf
-keeps-first x xs = ap (λ (t : Bool). cond t (thinOf nan xs) (x ∷ thinOf x xs)) (none-near x)

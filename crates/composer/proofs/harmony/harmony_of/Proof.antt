@@ -1,8 +1,5 @@
 -- Each call is its definition, a pick of n is below n, and a loop holds degrees. Assumes nothing.
-use mathlib.Core.Path.{_≡_, sym, subst}
-use Prim.Native.Nat.{_<_}
 use native.Mathlib.Omega.{arith}
-use Rattle.streams.specs.declared.draw.PickDraw.{PickDraw}
 use Rattle.streams.proofs.DrawLaws.{pick-lt}
 use Rattle.composer.specs.Harmony.{rowsOf, harmonyIn, harmonyOf}
 use Rattle.composer.proofs.HarmonyLaws.{loop-degree, rows-some}

@@ -1,9 +1,8 @@
 -- A row within its table. Assumes nothing.
-use native.Mathlib.Omega.{arith}
-use mathlib.Core.Path.{_≡_, subst}
-use mathlib.Core.Bool.{Bool, true, false}
+use mathlib.Core.Path.{subst}
+use mathlib.Core.Bool.{Bool}
 use Prim.Native.Nat.{_<_}
-use Rattle.composer.specs.Harmony.{rowsOf, loopAt}
+use Rattle.composer.specs.Harmony.{rowsOf}
 use borrow.Author.Needs.{needs}
 use Rattle.composer.proofs.harmony.loop_at.Statement.{statement}
 use Rattle.composer.proofs.harmony.loop_at.Tie as tie

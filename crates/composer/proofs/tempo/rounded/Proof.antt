@@ -1,6 +1,5 @@
 -- The test is the definition’s, on the truncated value. Assumes nothing.
-use mathlib.Core.Path.{_≡_, sym, _∙_, subst}
-use mathlib.Core.Bool.{cond}
+use mathlib.Core.Path.{sym, subst}
 use Prim.Native.Nat.{ℕ, _^_, _≤_}
 use Rattle.laws.proofs.Exact.{exact}
 use Rattle.laws.proofs.Rounding.{round-is}

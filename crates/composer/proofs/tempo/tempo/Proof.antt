@@ -1,7 +1,4 @@
 -- Each call is its definition, and the window is far below 2^24. Assumes nothing.
-use mathlib.Core.Path.{_≡_, sym, ap, _∙_, subst}
-use Prim.Native.Nat.{ℕ, _^_, _≤_}
-use Rattle.laws.specs.Floats.{roundOf}
 use Rattle.laws.proofs.Exact.{exact}
 use Rattle.composer.specs.Tempo.{beatsOf, tempoOf}
 use Rattle.composer.proofs.TempoLaws.{drawn-small, beats-small}

@@ -1,5 +1,5 @@
 -- The test is the definition’s, and below 2^24 the truncated value is an f32. Assumes nothing.
-use mathlib.Core.Path.{_≡_, sym, subst}
+use mathlib.Core.Path.{sym, subst}
 use Prim.Native.Nat.{ℕ, _^_, _≤_}
 use lib.Dec.{T}
 use lib.Ieee.{Float, binary32, ofBits, lt, toUnsigned}
