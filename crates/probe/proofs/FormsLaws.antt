@@ -36,5 +36,6 @@ bars-word-room ps from n h =
 
 pub reads-back : (a : PlaysAnswer) → toZ w64 (ofZ w64 (playsNumberOf a)) ≡ playsNumberOf a
 reads-back (PlaysAnswer.Found p) = toZ-pos w64 (bitsOf p) (omega (arith, bits-lt p))
+reads-back (PlaysAnswer.Refused Refusal.UnknownStyle) = refl
 reads-back (PlaysAnswer.Refused Refusal.NoSuchBar) = refl
 reads-back (PlaysAnswer.Refused Refusal.Malformed) = refl

@@ -1,3 +1,5 @@
 pub mod Draws
 pub mod Forms
+pub mod Kicks
+pub mod Scores
 pub mod Stages

@@ -87,7 +87,7 @@ fn word(f: Form, k: u8) -> u64
 }
 
 // The number of the refusal, 0 for none.
-fn outcome_number(o: Outcome) -> u64
+pub fn outcome_number(o: Outcome) -> u64
     ensures { λ r. ⌜ r ≡ outcomeNumberOf o ⌝ }
 {
     match o {
@@ -113,6 +113,7 @@ fn minus_number(r: Refusal) -> i64
     ensures { λ n. ⌜ n ≡ negℤ (pos (numberOf r)) ⌝ }
 {
     match r {
+        Refusal::UnknownStyle => -1,
         Refusal::NoSuchBar => -3,
         Refusal::Malformed => -4,
     }

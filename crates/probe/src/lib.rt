@@ -3,4 +3,6 @@
 pub mod draws;
 pub mod floats;
 pub mod forms;
+pub mod kicks;
+pub mod scores;
 pub mod stages;

@@ -1,8 +1,10 @@
 //! The private parts of compose.rs that the driver asks for.
 
-use super::Stage;
-pub(crate) use super::form::reach as form;
+use super::{Chord, DrumKind, GEN_LOOP_BARS, Harmony, LeadVoice, Score, Stage};
+pub(crate) use super::{Hit, Note, form::reach as form, kicks};
 use crate::dsp::NoiseStream;
+use crate::dsp::reach::counter_of;
+use crate::style::{HIPHOP, SLEEP, Style};
 
 /// The stages in the order of their numbers.
 pub(crate) const STAGES: [Stage; 8] = [
@@ -16,6 +18,9 @@ pub(crate) const STAGES: [Stage; 8] = [
     Stage::LeadVoice,
 ];
 
+/// The styles in the order of their numbers.
+pub(crate) static STYLES: [&Style; 2] = [&HIPHOP, &SLEEP];
+
 pub(crate) fn pick(rng: &mut NoiseStream, n: usize) -> usize {
     super::pick(rng, n)
 }
@@ -26,4 +31,139 @@ pub(crate) fn chance(rng: &mut NoiseStream, p: f32) -> bool {
 
 pub(crate) fn coin(rng: &mut NoiseStream) -> bool {
     super::coin(rng)
+}
+
+/// The voice's number on the sheet.
+pub(crate) fn voice_code(score: &Score) -> u64 {
+    match score.lead_voice {
+        LeadVoice::EpVel => 0,
+        LeadVoice::Pluck => 1,
+        LeadVoice::Kalimba => 2,
+        LeadVoice::Vibraphone => 3,
+    }
+}
+
+/// The drum's number on the sheet.
+pub(crate) fn kind_code(hit: &Hit) -> u64 {
+    match hit.kind {
+        DrumKind::Kick => 0,
+        DrumKind::Snare => 1,
+        DrumKind::Hat => 2,
+        DrumKind::OpenHat => 3,
+    }
+}
+
+/// A hit at this time, its drum by number; 4 and above are open hats.
+pub(crate) fn hit(at: f32, kind: u64) -> Hit {
+    let kind = match kind {
+        0 => DrumKind::Kick,
+        1 => DrumKind::Snare,
+        2 => DrumKind::Hat,
+        _ => DrumKind::OpenHat,
+    };
+    Hit {
+        at,
+        kind,
+        gain: 0.0,
+    }
+}
+
+/// The loop bar that each event was drawn for.
+pub(crate) struct EventBars {
+    pub(crate) lead: Vec<u64>,
+    pub(crate) keys: Vec<u64>,
+    pub(crate) hits: Vec<u64>,
+    pub(crate) bass: Vec<u64>,
+}
+
+/// A song, and what its stages keep to themselves.
+pub(crate) struct Take {
+    pub(crate) score: Score,
+    pub(crate) roots: [u8; GEN_LOOP_BARS],
+    pub(crate) scale: Vec<u8>,
+    /// The counters that the stages after the form leave their streams with.
+    pub(crate) counters: [u64; 7],
+    pub(crate) bars: EventBars,
+}
+
+pub(crate) fn take(style: &'static Style, seed: u64) -> Take {
+    let (score, harmony) = super::composed(style, seed);
+    Take {
+        roots: harmony.bars.map(|c| c.root_pc),
+        counters: counters(&score, &harmony, seed),
+        bars: EventBars {
+            lead: lead_bars(&score, &harmony, seed),
+            keys: keys_bars(&score, seed),
+            hits: hit_bars(&score),
+            bass: bass_bars(seed),
+        },
+        scale: harmony.melody_pcs,
+        score,
+    }
+}
+
+/// `composed` keeps its streams to itself, so its stages are run again, on streams that are kept.
+fn counters(score: &Score, harmony: &Harmony, seed: u64) -> [u64; 7] {
+    let mut streams: [NoiseStream; 7] = std::array::from_fn(|i| STAGES[1 + i].stream(seed));
+    let [for_harmony, tempo, lead, keys, drums, bass, voice] = &mut streams;
+    let (writing, beat_s) = (&score.style.writing, score.beat_s());
+    super::harmony(for_harmony, &writing.harmony);
+    writing.bpm.draw(tempo);
+    let sparkle = super::lead(lead, harmony, &writing.lead, beat_s);
+    assert_eq!(sparkle, score.sparkle, "the lead comes out again");
+    let again = super::keys(keys, &harmony.bars, &writing.keys, beat_s);
+    assert_eq!(again, score.keys, "the keys come out again");
+    let again = super::drums(drums, &writing.drums, beat_s);
+    assert_eq!(again, score.drums, "the drums come out again");
+    let again = super::bass(bass, &harmony.bars, &writing.bass, beat_s);
+    assert_eq!(again, score.bass, "the bass comes out again");
+    voice.unit();
+    streams.each_ref().map(counter_of)
+}
+
+/// The bars of the melody's notes, which are played in their order.
+fn lead_bars(score: &Score, harmony: &Harmony, seed: u64) -> Vec<u64> {
+    let style = &score.style.writing.lead;
+    let rng = &mut Stage::Lead.stream(seed);
+    let statement = super::statement(rng, style);
+    let answer = super::answer(rng, &statement);
+    let line = super::melody(rng, &[statement, answer].concat(), harmony, style);
+    line.iter().map(|n| n.bar as u64).collect()
+}
+
+/// The keys over chords of thirds and sevenths alone, each bar's in an octave of its own: no draw
+/// depends on a chord, so the same notes come, and each tells its bar.
+fn keys_bars(score: &Score, seed: u64) -> Vec<u64> {
+    let chords = std::array::from_fn(|bar| {
+        let c = 12 * bar as u8;
+        Chord {
+            notes: [c + 4, c + 4, c + 11, c + 11],
+            root_pc: 0,
+        }
+    });
+    let rng = &mut Stage::Keys.stream(seed);
+    let notes = super::keys(rng, &chords, &score.style.writing.keys, score.beat_s());
+    // a seventh lifted to the ninth is at most 10 over the third
+    notes.iter().map(|n| u64::from(n.midi - 4) / 12).collect()
+}
+
+/// Each bar has kicks, then snares, then hats, so a kick after another drum starts the next bar.
+fn hit_bars(score: &Score) -> Vec<u64> {
+    let (mut bar, mut kicking) = (0, true);
+    (score.drums.iter())
+        .map(|hit| {
+            let kick = hit.kind == DrumKind::Kick;
+            bar += u64::from(kick && !kicking);
+            kicking = kick;
+            bar
+        })
+        .collect()
+}
+
+/// Every bar's rhythm is drawn before any note, and has a step for each of its notes.
+fn bass_bars(seed: u64) -> Vec<u64> {
+    let rng = &mut Stage::Bass.stream(seed);
+    (0..GEN_LOOP_BARS as u64)
+        .flat_map(|bar| super::bass_rhythm(rng).into_iter().map(move |_| bar))
+        .collect()
 }

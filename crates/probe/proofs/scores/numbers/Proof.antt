@@ -1,0 +1,33 @@
+-- Bits and numbers are the callees'. Assumes nothing.
+use borrow.Author.Needs.{needs}
+use Rattle.probe.proofs.scores.numbers.Statement.{statement}
+use Rattle.probe.proofs.scores.numbers.Tie as tie
+
+outcome-number-requires : tie.Need-outcome-number-requires
+outcome-number-requires c κs = search needs
+
+style-number-requires : tie.Need-style-number-requires
+style-number-requires c κs = search needs
+
+bits-of-requires : tie.Need-bits-of-requires
+bits-of-requires c κs = search needs
+
+voice-number-requires : tie.Need-voice-number-requires
+voice-number-requires c κs = search needs
+
+cast-t9 : tie.Need-cast-t9
+cast-t9 c = search needs
+
+returns : tie.Need-returns
+returns c = rw (c .voice-number .ensures, c .before .bits-of .ensures, c .before .before .style-number .ensures, c .before .before .before .outcome-number .ensures)
+
+pub numbers-spec : {M : Type 1} → statement M
+numbers-spec =
+    tie.close
+    (tie.spec
+    outcome-number-requires
+    style-number-requires
+    bits-of-requires
+    voice-number-requires
+    cast-t9
+    returns)

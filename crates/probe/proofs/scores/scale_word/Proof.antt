@@ -1,0 +1,24 @@
+-- The test is the definition's. Assumes nothing.
+use borrow.Author.Tests.{eq-eqb, ne-eqb}
+use borrow.Author.Needs.{needs}
+use Rattle.probe.proofs.scores.scale_word.Statement.{statement}
+use Rattle.probe.proofs.scores.scale_word.Tie as tie
+
+returns : tie.Need-returns
+returns c = rw (eq-eqb (c .before .args .k) 0 (c .if1 .taken))
+
+sub-result : tie.Need-sub-result
+sub-result c = search needs
+
+element-copy-out-result : tie.Need-element-copy-out-result
+element-copy-out-result c = search needs
+
+cast-result : tie.Need-cast-result
+cast-result c = search needs
+
+returns-2 : tie.Need-returns-2
+returns-2 c = rw (ne-eqb (c .before .before .args .k) 0 (c .before .if1 .left))
+
+pub scale-word-spec : {M : Type 1} → statement M
+scale-word-spec =
+    tie.close (tie.spec returns sub-result element-copy-out-result cast-result returns-2)
