@@ -5,7 +5,11 @@ use probe::draws::probe_units;
 use probe::draws::probe_words;
 use probe::forms::probe_beatless;
 use probe::forms::probe_form;
+use probe::kicks::probe_kicks;
+use probe::scores::probe_score;
+use probe::scores::probe_unbeaten;
 use probe::stages::probe_stage_seed;
+use streams::mix::wrapping_mul_u64;
 
 fn stage_seed(seed: u64, stage: u64) -> u64 {
     let mut out = [0u64; 1];
@@ -37,6 +41,52 @@ fn coin(seed: u64) -> u64 {
     out[0]
 }
 
+// Word k of a song; of the first 15 alone.
+fn song_word(style: u8, seed: u64, k: u64) -> u64 {
+    let mut out = [0u64; 15];
+    probe_score(style, seed, &mut out);
+    if k < 15 { out[k as usize] } else { u64::MAX }
+}
+
+// FNV-1a over whole words.
+fn fold(words: &[u64]) -> u64 {
+    let mut h: u64 = 0xcbf2_9ce4_8422_2325;
+    let mut i: usize = 0;
+    while i < words.len() {
+        h = wrapping_mul_u64(h ^ words[i], 0x0000_0100_0000_01b3);
+        i += 1;
+    }
+    h
+}
+
+fn song_fold(style: u8, seed: u64) -> u64 {
+    let mut out = [0u64; 1894];
+    probe_score(style, seed, &mut out);
+    fold(&out)
+}
+
+fn unbeaten_fold(style: u8, seed: u64) -> u64 {
+    let mut out = [0u64; 1894];
+    probe_unbeaten(style, seed, &mut out);
+    fold(&out)
+}
+
+fn kicks_fold(style: u8, seed: u64) -> u64 {
+    let mut out = [0u64; 100];
+    probe_kicks(style, seed, &mut out);
+    fold(&out)
+}
+
+// A fold of all words of the song, of the song without its drums, or of its kicks.
+fn folded(style: u8, seed: u64, what: u64) -> u64 {
+    match what {
+        0 => song_fold(style, seed),
+        1 => unbeaten_fold(style, seed),
+        2 => kicks_fold(style, seed),
+        _ => u64::MAX,
+    }
+}
+
 // Our answer; the largest number for a letter that asks nothing.
 pub fn answer(what: u8, a: u64, b: u64) -> u64 {
     match what {
@@ -47,6 +97,10 @@ pub fn answer(what: u8, a: u64, b: u64) -> u64 {
         b'C' => coin(a),
         b'F' => probe_form(a, (b % 256) as u8),
         b'B' => probe_beatless(a, (b % 256) as u8),
+        b'H' => song_word(0, a, b),
+        b'Z' => song_word(1, a, b),
+        b'h' => folded(0, a, b),
+        b'z' => folded(1, a, b),
         _ => u64::MAX,
     }
 }

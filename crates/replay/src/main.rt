@@ -78,5 +78,6 @@ fn main() {
     replay(b"published");
     replay(b"draws");
     replay(b"forms");
+    replay(b"songs");
     replay(b"wrong");
 }

@@ -109,10 +109,10 @@ fn compare_truncation(tally: &mut Tally) {
 }
 
 /// SplitMix64's step from one draw to the next.
-pub const GAMMA: u64 = 0x9e37_79b9_7f4a_7c15;
+const GAMMA: u64 = 0x9e37_79b9_7f4a_7c15;
 
 /// The inverse of `dsp.rs`'s mixer: what it mixes to `z`.
-pub fn unmixed(z: u64) -> u64 {
+fn unmixed(z: u64) -> u64 {
     let unshifted = |z: u64, k: u32| (0..64 / k).fold(z, |x, _| z ^ (x >> k));
     // Newton's step doubles the right low bits of an odd number's inverse
     let inverse = |m: u64| {
@@ -128,6 +128,16 @@ pub fn unmixed(z: u64) -> u64 {
 /// A stream whose first draw has the top 24 bits `k`.
 pub fn stream_with(k: u64) -> u64 {
     unmixed(k << 40).wrapping_sub(GAMMA)
+}
+
+/// A song seed whose stage has `z` as its draw n: the Rust's way from the seed to the draw, backwards.
+pub fn seed_with(stage: usize, n: u64, z: u64) -> u64 {
+    let id = stage as u64 + 1;
+    let theirs = unmixed(z).wrapping_sub(n.wrapping_mul(GAMMA));
+    let seed = unmixed(unmixed(theirs).wrapping_sub(id.wrapping_mul(GAMMA)));
+    let drawn = next_u64(&mut stream(seed_of(&STAGES[stage].stream(seed)), n - 1));
+    assert_eq!(drawn, z, "the way was gone backwards");
+    seed
 }
 
 /// The draws within two steps of the end of one of the unit's equal parts, by their top 24 bits.

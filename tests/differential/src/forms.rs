@@ -1,10 +1,8 @@
 //! The forms: a seed's own, the same without a beat, and what seeds' forms span.
 
-use crate::compose::reach::STAGES;
 use crate::compose::reach::form::{dips, intro_code, outro_code, phrases, plays_at};
 use crate::compose::{Form, arrange, spans_a_form};
-use crate::draws::{GAMMA, around, unmixed};
-use crate::dsp::reach::{next_u64, seed_of, stream};
+use crate::draws::{around, seed_with};
 use crate::ours;
 use crate::tally::Tally;
 
@@ -121,21 +119,6 @@ pub fn compare_seed(tally: &mut Tally, seed: u64) {
     tally.same(input, 29, ours::form_counter(seed));
 }
 
-/// A seed whose form has `z` as its draw n: the Rust's way from the seed to the draw, backwards.
-fn seed_with(n: u64, z: u64) -> u64 {
-    let theirs = unmixed(z).wrapping_sub(n.wrapping_mul(GAMMA));
-    unmixed(unmixed(theirs).wrapping_sub(GAMMA))
-}
-
-/// A form with `z` as its draw n.
-fn compare_drawing(tally: &mut Tally, n: u64, z: u64) {
-    let seed = seed_with(n, z);
-    let theirs = seed_of(&STAGES[0].stream(seed));
-    let drawn = next_u64(&mut stream(theirs, n - 1));
-    assert_eq!(drawn, z, "the way was gone backwards");
-    compare_form(tally, seed, &arrange(seed));
-}
-
 /// Inputs at the limits: words that no form has, and draws around each bound, eight forms for each,
 /// which differ in the other draws.
 pub fn compare_edges(tally: &mut Tally) {
@@ -149,7 +132,8 @@ pub fn compare_edges(tally: &mut Tally) {
     for (n, parts) in (1..).zip(DIVIDED) {
         for k in (0..=parts).flat_map(|part| around(part, parts)) {
             for low in 0..8 {
-                compare_drawing(tally, n, k << 40 | low);
+                let seed = seed_with(0, n, k << 40 | low);
+                compare_form(tally, seed, &arrange(seed));
             }
         }
     }

@@ -15,11 +15,15 @@ mod synth;
 
 mod draws;
 mod forms;
+mod hits;
 mod made;
 mod ours;
 mod record;
 mod sample;
+mod scores;
+mod songs;
 mod tally;
+mod words;
 
 use tally::Tally;
 
@@ -36,8 +40,10 @@ fn compare(from: u64, to: u64) -> Tally {
         let seed = seed_of(i);
         draws::compare_seed(&mut tally, seed);
         forms::compare_seed(&mut tally, seed);
+        scores::compare_seed(&mut tally, seed);
         if i % 15 == 0 {
             made::compare_seed(&mut tally, seed);
+            hits::compare_seed(&mut tally, seed);
         }
     }
     tally
@@ -69,6 +75,8 @@ fn main() {
     draws::compare_edges(&mut edges);
     forms::compare_edges(&mut edges);
     made::compare_edges(&mut edges);
+    scores::compare_edges(&mut edges);
+    hits::compare_edges(&mut edges);
     let values = edges.compared + compare_all(start, count);
     println!("{count} seeds from {start}: {values} values compared, no difference");
 }

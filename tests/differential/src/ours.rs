@@ -33,6 +33,10 @@ mod raw {
             k: u8,
         ) -> u64;
         pub fn probe_spans(seeds: *const u64, len: usize) -> u8;
+        pub fn probe_score(style: u8, seed: u64, out: *mut u64, len: usize);
+        pub fn probe_unbeaten(style: u8, seed: u64, out: *mut u64, len: usize);
+        pub fn probe_kicks(style: u8, seed: u64, out: *mut u64, len: usize);
+        pub fn probe_made_kicks(words: *const u64, count: usize, out: *mut u64, len: usize);
     }
 }
 
@@ -98,4 +102,21 @@ pub fn made_beatless(seed: u64, parts: Parts, bars: u8, k: u8) -> u64 {
 
 pub fn spans(seeds: &[u64]) -> u8 {
     unsafe { raw::probe_spans(seeds.as_ptr(), seeds.len()) }
+}
+
+pub fn score(style: u8, seed: u64, out: &mut [u64]) {
+    unsafe { raw::probe_score(style, seed, out.as_mut_ptr(), out.len()) }
+}
+
+pub fn unbeaten(style: u8, seed: u64, out: &mut [u64]) {
+    unsafe { raw::probe_unbeaten(style, seed, out.as_mut_ptr(), out.len()) }
+}
+
+pub fn kicks(style: u8, seed: u64, out: &mut [u64]) {
+    unsafe { raw::probe_kicks(style, seed, out.as_mut_ptr(), out.len()) }
+}
+
+pub fn made_kicks(words: &[u64], out: &mut [u64]) {
+    let (made, count) = (words.as_ptr(), words.len());
+    unsafe { raw::probe_made_kicks(made, count, out.as_mut_ptr(), out.len()) }
 }

@@ -2,11 +2,12 @@
 //! letter and three words of 16 hexadecimal digits: what is asked, two arguments, the answer.
 
 use crate::compose::arrange;
-use crate::compose::reach::{STAGES, coin, pick};
+use crate::compose::reach::{STAGES, STYLES, coin, kicks, pick, take};
 use crate::draws::stream_with;
 use crate::dsp::reach::{next_u64, seed_of, stream};
-use crate::forms::words_of;
-use crate::sample;
+use crate::scores::unbeaten;
+use crate::words::{kick_words, words_of};
+use crate::{forms, sample, songs};
 
 /// What is asked, its two arguments, the answer.
 type Line = (char, u64, u64, u64);
@@ -42,11 +43,35 @@ fn pick_lines(lines: &mut Vec<Line>) {
 /// the Rust refuses nothing here.
 fn form_lines(lines: &mut Vec<Line>, seed: u64) {
     let form = arrange(seed);
-    for (k, word) in (0..).zip(words_of(&form)) {
+    for (k, word) in (0..).zip(forms::words_of(&form)) {
         lines.push(('F', seed, k, word));
     }
-    for (k, word) in (0..).zip(words_of(&form.beatless()).into_iter().chain([0])) {
+    for (k, word) in (0..).zip(forms::words_of(&form.beatless()).into_iter().chain([0])) {
         lines.push(('B', seed, k, word));
+    }
+}
+
+/// FNV-1a over whole words, as the Rust's own tests fold what they record.
+fn fold(words: &[u64]) -> u64 {
+    words.iter().fold(0xcbf2_9ce4_8422_2325, |h, w| {
+        (h ^ w).wrapping_mul(0x0000_0100_0000_01b3)
+    })
+}
+
+/// H, Z: word b of the song of the song seed a in hiphop and in sleep, the first 15. h, z: a fold of
+/// all words: b is 0 for the song, 1 for the song without its drums, 2 for its kicks.
+fn song_lines(lines: &mut Vec<Line>, seed: u64) {
+    for (style, (word, folded)) in (0..).zip([('H', 'h'), ('Z', 'z')]) {
+        let take = take(STYLES[usize::from(style)], seed);
+        let words = words_of(style, &take);
+        for (k, &w) in (0..15).zip(&words) {
+            lines.push((word, seed, k, w));
+        }
+        let kicks = kick_words(&kicks(&take.score.drums));
+        let rest = words_of(style, &unbeaten(take));
+        for (b, words) in (0..).zip([words, rest, kicks]) {
+            lines.push((folded, seed, b, fold(&words)));
+        }
     }
 }
 
@@ -69,4 +94,9 @@ pub fn write(folder: &str) {
         form_lines(&mut forms, seed);
     }
     write_lines(folder, "forms", &forms);
+    let mut songs = Vec::new();
+    for seed in songs::seeds() {
+        song_lines(&mut songs, seed);
+    }
+    write_lines(folder, "songs", &songs);
 }

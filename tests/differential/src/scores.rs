@@ -1,168 +1,109 @@
-//! The scores in words, for both styles.
+//! The scores: a seed's own in both styles, the same without its drums, and its kicks.
 
-use crate::compose::reach::{EventBars, Hit, Note, Take, kind_code, voice_code};
+use crate::compose::reach::{EventBars, STYLES, Take, kicks, take};
+use crate::draws::{around, seed_with};
+use crate::ours;
+use crate::songs;
+use crate::tally::Tally;
+use crate::words::{KICK_WORDS, WORDS, kick_name, kick_words, word_name, words_of};
 
-/// A lane's capacity and what each word of an entry says.
-struct Lane {
-    name: &'static str,
-    most: usize,
-    fields: &'static [&'static str],
-}
-
-const NOTE: [&str; 5] = ["bar", "time", "MIDI note", "velocity", "duration"];
-const HIT: [&str; 4] = ["bar", "time", "kind", "gain"];
-
-const LANES: [Lane; 4] = [
-    Lane {
-        name: "lead note",
-        most: 56,
-        fields: &NOTE,
-    },
-    Lane {
-        name: "keys note",
-        most: 128,
-        fields: &NOTE,
-    },
-    Lane {
-        name: "hit",
-        most: 98,
-        fields: &HIT,
-    },
-    Lane {
-        name: "bass note",
-        most: 104,
-        fields: &NOTE,
-    },
+/// Draws that decide by the end of one of the unit's equal parts: the stage by its place, the draw's
+/// number, how many parts.
+const DIVIDED: [(usize, u64, u64); 12] = [
+    (1, 1, 50), // a major loop, by 0.8 or 0.42
+    (1, 2, 16), // the loop
+    (1, 2, 15),
+    (1, 3, 12), // the key
+    (2, 1, 24), // the tempo's halves, from 70.5 and from 73.5 on
+    (2, 1, 8),
+    (3, 1, 20), // the lead's first rest or note
+    (3, 2, 20),
+    (4, 1, 20), // sleep's first stroke of the keys
+    (5, 1, 4),  // hiphop's groove
+    (5, 2, 20), // sleep's first hat
+    (7, 1, 20), // the voice
 ];
 
-/// What each of the first words says.
-const NUMBERS: [&str; 22] = [
-    "refusal",
-    "style",
-    "tempo",
-    "lead voice",
-    "count of lead notes",
-    "count of keys notes",
-    "count of hits",
-    "count of bass notes",
-    "counter of the harmony",
-    "counter of the tempo",
-    "counter of the lead",
-    "counter of the keys",
-    "counter of the drums",
-    "counter of the bass",
-    "counter of the voice",
-    "count of the scale",
-    "class 0 of the scale",
-    "class 1 of the scale",
-    "class 2 of the scale",
-    "class 3 of the scale",
-    "class 4 of the scale",
-    "class 5 of the scale",
-];
-
-/// How many words a score has.
-pub const WORDS: usize = 1894;
-
-fn bits(x: f32) -> u64 {
-    x.to_bits().into()
-}
-
-fn note_words(note: &Note, bar: u64) -> [u64; 5] {
-    let midi = note.midi.into();
-    [bar, bits(note.at), midi, bits(note.vel), bits(note.dur)]
-}
-
-fn hit_words(hit: &Hit, bar: u64) -> [u64; 4] {
-    [bar, bits(hit.at), kind_code(hit), bits(hit.gain)]
-}
-
-/// The entries of a lane, and zeros up to its capacity.
-fn push_lane<E, const N: usize>(
-    words: &mut Vec<u64>,
-    most: usize,
-    events: &[E],
-    bars: &[u64],
-    entry: impl Fn(&E, u64) -> [u64; N],
-) {
-    assert_eq!(events.len(), bars.len(), "each event has its bar");
-    let end = words.len() + most * N;
-    words.extend(events.iter().zip(bars).flat_map(|(e, &bar)| entry(e, bar)));
-    assert!(words.len() <= end, "a lane has no more than its capacity");
-    words.resize(end, 0);
-}
-
-/// The first words of the take, the style by its number.
-fn numbers(style: u8, take: &Take) -> [u64; 22] {
-    let score = &take.score;
-    let count = |n: usize| n as u64;
-    let [harmony, tempo, lead, keys, drums, bass, voice] = take.counters;
-    let class = |i: usize| take.scale.get(i).map_or(0, |&pc| pc.into());
-    [
-        0,
-        style.into(),
-        bits(score.bpm),
-        voice_code(score),
-        count(score.sparkle.len()),
-        count(score.keys.len()),
-        count(score.drums.len()),
-        count(score.bass.len()),
-        harmony,
-        tempo,
-        lead,
-        keys,
-        drums,
-        bass,
-        voice,
-        count(take.scale.len()),
-        class(0),
-        class(1),
-        class(2),
-        class(3),
-        class(4),
-        class(5),
-    ]
-}
-
-/// The take's words: numbers, then each bar's chord, its root's class first, then the lanes.
-pub fn words_of(style: u8, take: &Take) -> Vec<u64> {
-    let score = &take.score;
-    let mut words = numbers(style, take).to_vec();
-    for (root, notes) in take.roots.iter().zip(score.bar_chords) {
-        words.push((*root).into());
-        words.extend(notes.map(u64::from));
+/// The take with its drums gone, as the Rust's `unbeaten` has it.
+pub fn unbeaten(take: Take) -> Take {
+    let bars = EventBars {
+        hits: Vec::new(),
+        ..take.bars
+    };
+    Take {
+        score: take.score.unbeaten(),
+        bars,
+        ..take
     }
-    let EventBars {
-        lead,
-        keys,
-        hits,
-        bass,
-    } = &take.bars;
-    let most = LANES.map(|lane| lane.most);
-    push_lane(&mut words, most[0], &score.sparkle, lead, note_words);
-    push_lane(&mut words, most[1], &score.keys, keys, note_words);
-    push_lane(&mut words, most[2], &score.drums, hits, hit_words);
-    push_lane(&mut words, most[3], &score.bass, bass, note_words);
-    assert_eq!(words.len(), WORDS, "a score has so many words");
+}
+
+/// What one of our functions writes into `count` places.
+pub fn our_words(count: usize, fill: impl FnOnce(&mut [u64])) -> Vec<u64> {
+    let mut words = vec![u64::MAX; count];
+    fill(&mut words);
     words
 }
 
-/// What word k of a score says.
-pub fn word_name(k: usize) -> String {
-    if k < 22 {
-        return NUMBERS[k].into();
+/// The seed's song in a style.
+fn compare_song(tally: &mut Tally, style: u8, seed: u64) {
+    let song = || format!("the song of {seed:#x} in style {style}");
+    let take = take(STYLES[usize::from(style)], seed);
+    let ours = our_words(WORDS, |out| ours::score(style, seed, out));
+    tally.same_words(song, word_name, &words_of(style, &take), &ours);
+    let rust = kick_words(&kicks(&take.score.drums));
+    let ours = our_words(KICK_WORDS, |out| ours::kicks(style, seed, out));
+    tally.same_words(
+        || format!("the kicks of {}", song()),
+        kick_name,
+        &rust,
+        &ours,
+    );
+    let rust = words_of(style, &unbeaten(take));
+    let ours = our_words(WORDS, |out| ours::unbeaten(style, seed, out));
+    tally.same_words(|| format!("{} unbeaten", song()), word_name, &rust, &ours);
+}
+
+/// All that is asked of one seed's songs.
+pub fn compare_seed(tally: &mut Tally, seed: u64) {
+    for style in [0, 1] {
+        compare_song(tally, style, seed);
     }
-    if k < 62 {
-        return format!("word {} of bar {}'s chord", (k - 22) % 5, (k - 22) / 5);
+}
+
+/// Styles that are none: document 01's refusal 1, beside a score of zeros.
+fn compare_refused(tally: &mut Tally, style: u8, seed: u64) {
+    let mut refused = vec![0; WORDS];
+    refused[0] = 1;
+    let what = || format!("the song of {seed:#x} in style {style}");
+    let ours = our_words(WORDS, |out| ours::score(style, seed, out));
+    tally.same_words(what, word_name, &refused, &ours);
+}
+
+/// Buffers with no place, with fewer than a song's words, and with more.
+fn compare_buffers(tally: &mut Tally) {
+    let mut rust = words_of(1, &take(STYLES[1], 1));
+    rust.resize(2 * WORDS, 0);
+    for count in [0, 1, 61, 62, 63, WORDS - 1, WORDS + 1, 2 * WORDS] {
+        let what = || format!("a buffer of {count}");
+        let ours = our_words(count, |out| ours::score(1, 1, out));
+        tally.same_words(what, word_name, &rust[..count], &ours);
     }
-    let mut at = 62;
-    for lane in LANES {
-        let size = lane.fields.len();
-        if k < at + lane.most * size {
-            let (i, field) = ((k - at) / size, (k - at) % size);
-            return format!("{} of {} {i}", lane.fields[field], lane.name);
+}
+
+/// Inputs at the limits: no style, other buffers, draws around each bound, and songs that are rare.
+pub fn compare_edges(tally: &mut Tally) {
+    for style in 2..=255 {
+        for seed in [0, 1, u64::MAX] {
+            compare_refused(tally, style, seed);
         }
-        at += lane.most * size;
     }
-    format!("word {k}, of no score")
+    compare_buffers(tally);
+    for (stage, n, parts) in DIVIDED {
+        for k in (0..=parts).flat_map(|part| around(part, parts)) {
+            compare_seed(tally, seed_with(stage, n, k << 40));
+        }
+    }
+    for seed in songs::RARE {
+        compare_seed(tally, seed);
+    }
 }

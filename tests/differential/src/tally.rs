@@ -25,6 +25,20 @@ impl Tally {
         }
     }
 
+    /// Words more, each with the name that its place has.
+    pub fn same_words(
+        &mut self,
+        what: impl Fn() -> String,
+        name: impl Fn(usize) -> String,
+        rust: &[u64],
+        ours: &[u64],
+    ) {
+        assert_eq!(rust.len(), ours.len(), "both sides have as many words");
+        for (k, (r, o)) in rust.iter().zip(ours).enumerate() {
+            self.same(|| format!("{} of {}", name(k), what()), r, o);
+        }
+    }
+
     /// A run of draws more: each value, and the counter afterwards.
     pub fn same_run(&mut self, input: impl Fn() -> String, rust: &Run, ours: &Run) {
         assert_eq!(

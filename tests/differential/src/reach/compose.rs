@@ -1,6 +1,8 @@
 //! The private parts of compose.rs that the driver asks for.
 
-use super::{Chord, DrumKind, GEN_LOOP_BARS, Harmony, LeadVoice, Score, Stage};
+use super::{
+    Chord, DrumKind, GEN_LOOP_BARS, Harmony, LEAD_GRID, LeadVoice, STATEMENT_BARS, Score, Stage,
+};
 pub(crate) use super::{Hit, Note, form::reach as form, kicks};
 use crate::dsp::NoiseStream;
 use crate::dsp::reach::counter_of;
@@ -53,13 +55,13 @@ pub(crate) fn kind_code(hit: &Hit) -> u64 {
     }
 }
 
-/// A hit at this time, its drum by number; 4 and above are open hats.
+/// A hit at this time, its drum by number; a number of none is a kick.
 pub(crate) fn hit(at: f32, kind: u64) -> Hit {
     let kind = match kind {
-        0 => DrumKind::Kick,
         1 => DrumKind::Snare,
         2 => DrumKind::Hat,
-        _ => DrumKind::OpenHat,
+        3 => DrumKind::OpenHat,
+        _ => DrumKind::Kick,
     };
     Hit {
         at,
@@ -166,4 +168,23 @@ fn bass_bars(seed: u64) -> Vec<u64> {
     (0..GEN_LOOP_BARS as u64)
         .flat_map(|bar| super::bass_rhythm(rng).into_iter().map(move |_| bar))
         .collect()
+}
+
+/// How many notes the draws leave a statement, before it may fall back: `statement` up to there.
+pub(crate) fn stated(style: &Style, seed: u64) -> usize {
+    let (rng, style) = (&mut Stage::Lead.stream(seed), &style.writing.lead);
+    let mut bar = || {
+        if style.rest_p.is_some_and(|p| chance(rng, p)) {
+            return 0;
+        }
+        let mut beats: Vec<f32> = (LEAD_GRID.iter().copied())
+            .filter(|_| chance(rng, style.note_p))
+            .collect();
+        for b in &mut beats {
+            super::push(rng, b);
+        }
+        super::settle(&mut beats);
+        beats.len()
+    };
+    (0..STATEMENT_BARS).map(|_| bar()).sum()
 }
