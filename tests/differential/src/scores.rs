@@ -1,6 +1,6 @@
 //! The scores: a seed's own in both styles, the same without its drums, and its kicks.
 
-use crate::compose::reach::{EventBars, STYLES, Take, kicks, take};
+use crate::compose::reach::{STYLES, Take, kicks, take};
 use crate::draws::{around, seed_with};
 use crate::ours;
 use crate::songs;
@@ -24,17 +24,15 @@ const DIVIDED: [(usize, u64, u64); 12] = [
     (7, 1, 20), // the voice
 ];
 
+/// Draws that decide by one part of many: the chances that the bass's root falls on steps 0, 1 and 2,
+/// each over what is left of the first beat's.
+const ROOTS: [(u64, u64, u64); 3] = [(1, 392, 851), (2, 226, 459), (3, 122, 233)];
+
 /// The take with its drums gone, as the Rust's `unbeaten` has it.
-pub fn unbeaten(take: Take) -> Take {
-    let bars = EventBars {
-        hits: Vec::new(),
-        ..take.bars
-    };
-    Take {
-        score: take.score.unbeaten(),
-        bars,
-        ..take
-    }
+pub fn unbeaten(mut take: Take) -> Take {
+    take.score = take.score.unbeaten();
+    take.bars.hits.truncate(take.score.drums.len());
+    take
 }
 
 /// What one of our functions writes into `count` places.
@@ -81,11 +79,12 @@ fn compare_refused(tally: &mut Tally, style: u8, seed: u64) {
 
 /// Buffers with no place, with fewer than a song's words, and with more.
 fn compare_buffers(tally: &mut Tally) {
-    let mut rust = words_of(1, &take(STYLES[1], 1));
+    let seed = 1;
+    let mut rust = words_of(1, &take(STYLES[1], seed));
     rust.resize(2 * WORDS, 0);
     for count in [0, 1, 61, 62, 63, WORDS - 1, WORDS + 1, 2 * WORDS] {
-        let what = || format!("a buffer of {count}");
-        let ours = our_words(count, |out| ours::score(1, 1, out));
+        let what = || format!("the song of {seed:#x} in style 1, {count} places");
+        let ours = our_words(count, |out| ours::score(1, seed, out));
         tally.same_words(what, word_name, &rust[..count], &ours);
     }
 }
@@ -101,6 +100,14 @@ pub fn compare_edges(tally: &mut Tally) {
     for (stage, n, parts) in DIVIDED {
         for k in (0..=parts).flat_map(|part| around(part, parts)) {
             compare_seed(tally, seed_with(stage, n, k << 40));
+        }
+    }
+    for (n, part, parts) in ROOTS {
+        for k in around(part, parts) {
+            // the other draws differ, and so whether the steps before fail
+            for low in 0..8 {
+                compare_seed(tally, seed_with(6, n, k << 40 | low));
+            }
         }
     }
     for seed in songs::RARE {
