@@ -8,6 +8,7 @@ use lib.Ieee.{binary32, toBits}
 use Rattle.composer.specs.Chord.{pastChord}
 use Rattle.composer.specs.Kicks.{unbeatenOf}
 use Rattle.composer.specs.Note.{pastNote, pastHit}
+use Rattle.composer.specs.Voice.{voiceNumberOf}
 use Rattle.composer.specs.declared.chord.Chord.{Chord}
 use Rattle.composer.specs.declared.compose.Composed.{Composed}
 use Rattle.composer.specs.declared.harmony.Scale.{Scale}
@@ -18,18 +19,11 @@ use Rattle.composer.specs.declared.refusal.Outcome.{Outcome}
 use Rattle.composer.specs.declared.score.Counters.{Counters}
 use Rattle.composer.specs.declared.score.Score.{Score}
 use Rattle.composer.specs.declared.style.Style.{Style}
-use Rattle.composer.specs.declared.voice.LeadVoice.{LeadVoice}
 use Rattle.probe.specs.Forms.{outcomeNumberOf}
 
 abbrev pub styleNumberOf : Style → ℕ
 styleNumberOf Style.Hiphop = 0
 styleNumberOf Style.Sleep = 1
-
-abbrev pub voiceNumberOf : LeadVoice → ℕ
-voiceNumberOf LeadVoice.EpVel = 0
-voiceNumberOf LeadVoice.Pluck = 1
-voiceNumberOf LeadVoice.Kalimba = 2
-voiceNumberOf LeadVoice.Vibraphone = 3
 
 abbrev pub kindNumberOf : DrumKind → ℕ
 kindNumberOf DrumKind.Kick = 0

@@ -2,10 +2,10 @@
 // then the lanes at their capacities, 5 for a note and 4 for a hit. Any further word is 0.
 ghost use mathlib.Core.Path.{_≡_};
 ghost use Prim.Native.Nat.{_<_};
-ghost use lib.ListN.{length, getD};
+ghost use lib.ListN.{length};
 ghost use Rattle.laws.specs.Lists.{listTo};
 ghost use Rattle.composer.specs.Compose.{composeOf};
-ghost use Rattle.probe.specs.Scores.{styleNumberOf, voiceNumberOf, kindNumberOf, numbersOf, countersOf, scaleWordOf, chordWordOf, noteWordsOf, hitWordsOf, headWordOf, laneWordOf, wordOf, unbeatenSong};
+ghost use Rattle.probe.specs.Scores.{styleNumberOf, kindNumberOf, numbersOf, countersOf, scaleWordOf, chordWordOf, noteWordsOf, hitWordsOf, headWordOf, laneWordOf, wordOf, unbeatenSong};
 use crate::forms::outcome_number;
 use composer::chord::Chord;
 use composer::compose::Composed;
@@ -19,7 +19,6 @@ use composer::refusal::Outcome;
 use composer::score::Counters;
 use composer::score::Score;
 use composer::style::Style;
-use composer::voice::LeadVoice;
 use streams::float::bits_of;
 
 fn style_number(style: Style) -> u64
@@ -28,17 +27,6 @@ fn style_number(style: Style) -> u64
     match style {
         Style::Hiphop => 0,
         Style::Sleep => 1,
-    }
-}
-
-fn voice_number(voice: LeadVoice) -> u64
-    ensures { λ r. ⌜ r ≡ voiceNumberOf voice ⌝ }
-{
-    match voice {
-        LeadVoice::EpVel => 0,
-        LeadVoice::Pluck => 1,
-        LeadVoice::Kalimba => 2,
-        LeadVoice::Vibraphone => 3,
     }
 }
 
@@ -62,12 +50,12 @@ fn numbers(outcome: Outcome, s: Score) -> [u64; 8]
     let refusal = outcome_number(outcome);
     let style_no = style_number(style);
     let tempo = bits_of(s.bpm);
-    let voice_no = voice_number(voice);
+    let voice_no = voice.number();
     [
         refusal,
         style_no,
         tempo as u64,
-        voice_no,
+        voice_no as u64,
         s.lead_count as u64,
         s.keys_count as u64,
         s.hit_count as u64,

@@ -12,14 +12,17 @@ style-number-requires c κs = search needs
 bits-of-requires : tie.Need-bits-of-requires
 bits-of-requires c κs = search needs
 
-voice-number-requires : tie.Need-voice-number-requires
-voice-number-requires c κs = search needs
+number-requires : tie.Need-number-requires
+number-requires c κs = search needs
 
 cast-t9 : tie.Need-cast-t9
 cast-t9 c = search needs
 
+cast-t10 : tie.Need-cast-t10
+cast-t10 c = search needs
+
 returns : tie.Need-returns
-returns c = rw (c .voice-number .ensures, c .before .bits-of .ensures, c .before .before .style-number .ensures, c .before .before .before .outcome-number .ensures)
+returns c = rw (c .number .ensures, c .before .bits-of .ensures, c .before .before .style-number .ensures, c .before .before .before .outcome-number .ensures)
 
 pub numbers-spec : {M : Type 1} → statement M
 numbers-spec =
@@ -28,6 +31,7 @@ numbers-spec =
     outcome-number-requires
     style-number-requires
     bits-of-requires
-    voice-number-requires
+    number-requires
     cast-t9
+    cast-t10
     returns)

@@ -1,9 +1,4 @@
 -- The words are those of the song composed, its drums taken by the callee. Assumes nothing.
-use mathlib.Core.Path.{ap, _∙_}
-use lib.ListN.{length}
-use Rattle.laws.specs.Lists.{listTo}
-use Rattle.composer.specs.declared.compose.Composed.{Composed}
-use Rattle.probe.specs.Scores.{wordOf}
 use borrow.Author.Needs.{needs}
 use Rattle.probe.proofs.scores.probe_unbeaten.Statement.{statement}
 use Rattle.probe.proofs.scores.probe_unbeaten.Tie as tie
