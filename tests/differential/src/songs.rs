@@ -1,6 +1,7 @@
 //! The seeds whose songs are recorded: among them is each thing that `shown` names.
 
-use crate::compose::reach::{STAGES, STYLES, pick, stated, take, voice_code};
+use crate::compose::reach::{STAGES, STYLES, pick, stated, take, tempo_drawn, voice_code};
+use crate::draws::seed_with;
 use std::collections::BTreeSet;
 
 /// Songs that are rare, two of each, found by trying seeds one by one: a hiphop statement that falls
@@ -15,9 +16,9 @@ pub const RARE: [u64; 6] = [
 ];
 
 /// How many things songs can show: 31 loops, 12 keys, 18 tempos, 4 grooves, 5 voices; in each style a
-/// statement that falls back, and an empty first and last bar of the lead; in hiphop 98 hits, and in
-/// sleep no keys.
-const THINGS: usize = 78;
+/// statement that falls back, an empty first and last bar of the lead, and a tempo drawn at an exact
+/// half; in hiphop 98 hits, and in sleep no keys.
+const THINGS: usize = 80;
 
 /// What the song of this seed shows.
 fn shown(style: usize, seed: u64) -> Vec<String> {
@@ -34,7 +35,9 @@ fn shown(style: usize, seed: u64) -> Vec<String> {
         let groove = pick(&mut STAGES[5].stream(seed), 4);
         all.push(format!("groove {groove}"));
     }
+    let half = tempo_drawn(STYLES[style], seed).fract() == 0.5;
     let rare = [
+        (half, "draws its tempo at a half"),
         (stated(STYLES[style], seed) < 2, "falls back"),
         (!take.bars.lead.contains(&0), "has an empty first bar"),
         (!take.bars.lead.contains(&7), "has an empty last bar"),
@@ -47,10 +50,16 @@ fn shown(style: usize, seed: u64) -> Vec<String> {
     all
 }
 
+/// A seed whose tempo's unit is an eighth, which is a half in both styles.
+fn at_a_half() -> u64 {
+    seed_with(2, 1, 1 << 61)
+}
+
 pub fn seeds() -> Vec<u64> {
     let mut things = BTreeSet::new();
     let mut kept = Vec::new();
-    for seed in RARE.into_iter().chain((0..10_000).map(crate::seed_of)) {
+    let chosen = RARE.into_iter().chain([at_a_half()]);
+    for seed in chosen.chain((0..10_000).map(crate::seed_of)) {
         let all = [0, 1].map(|style| shown(style, seed)).concat();
         let before = things.len();
         things.extend(all);

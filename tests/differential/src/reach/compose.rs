@@ -170,6 +170,11 @@ fn bass_bars(seed: u64) -> Vec<u64> {
         .collect()
 }
 
+/// The tempo as drawn, before it is rounded.
+pub(crate) fn tempo_drawn(style: &Style, seed: u64) -> f32 {
+    style.writing.bpm.draw(&mut Stage::Tempo.stream(seed))
+}
+
 /// How many notes the draws leave a statement, before it may fall back: `statement` up to there.
 pub(crate) fn stated(style: &Style, seed: u64) -> usize {
     let (rng, style) = (&mut Stage::Lead.stream(seed), &style.writing.lead);
