@@ -7,6 +7,10 @@ use Rattle.laws.specs.Floats.{f32Of}
 abbrev pub beatsPerBar : Float
 beatsPerBar = ofBits binary32 0x4080_0000
 
+-- 0.25
+abbrev pub sixteenthBeats : Float
+sixteenthBeats = ofBits binary32 0x3e80_0000
+
 abbrev pub barSOf : Float → Float
 barSOf beatS = mul binary32 beatS beatsPerBar
 

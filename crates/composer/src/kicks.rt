@@ -1,4 +1,4 @@
-// What ducks under the drums asks of a score: its kicks, and the score with no drums.
+// A score's kicks, and a score without its drums.
 ghost use mathlib.Core.Path.{_≡_};
 ghost use Prim.Native.Nat.{_+_, _<_, _≤_};
 ghost use lib.ListN.{take};

@@ -3,10 +3,9 @@ ghost use mathlib.Core.Path.{_≡_};
 ghost use Rattle.composer.specs.Timing.{fractOf, swingDelayOf, heldAtZero};
 use streams::float::truncated;
 
-// Bars in the loop that every lane plays.
-pub const GEN_LOOP_BARS: usize = 8;
-
 pub const BEATS_PER_BAR: f32 = 4.0;
+
+pub const SIXTEENTH_BEATS: f32 = 0.25;
 
 // The fraction of a beat: 0 on a whole one. From 2^24 on there are only whole ones.
 pub fn fract(x: f32) -> f32

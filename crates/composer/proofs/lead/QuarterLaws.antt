@@ -15,8 +15,8 @@ use Rattle.laws.proofs.Runs.{every, every-at}
 use Rattle.streams.specs.Draw.{chanceOf, coinOf}
 use Rattle.streams.specs.declared.stream.NoiseStream.{NoiseStream}
 use Rattle.composer.specs.Note.{zero32}
-use Rattle.composer.specs.Timing.{fractOf}
-use Rattle.composer.specs.Lead.Push.{pushP, sixteenthBeats, pushOf}
+use Rattle.composer.specs.Timing.{sixteenthBeats, fractOf}
+use Rattle.composer.specs.Lead.Push.{pushP, pushOf}
 use Rattle.composer.specs.Lead.Statement.{leadGrid}
 use Rattle.composer.specs.Lead.Answer.{gridFirst, gridLast, shiftP, eitherWayOf, clampOf, shiftOf}
 use Rattle.composer.specs.Lead.Settled.{quarters, Quarter}

@@ -10,7 +10,7 @@ use Rattle.streams.specs.declared.stream.NoiseStream.{NoiseStream}
 use Rattle.streams.specs.declared.draw.ChanceDraw.{ChanceDraw}
 use Rattle.composer.specs.Chord.{inOctaveFrom}
 use Rattle.composer.specs.Spread.{drawOf, afterOf}
-use Rattle.composer.specs.Timing.{barSOf}
+use Rattle.composer.specs.Timing.{sixteenthBeats, barSOf}
 use Rattle.composer.specs.Style.{oddsOf}
 use Rattle.composer.specs.Bass.Rhythm.{Rising}
 use Rattle.composer.specs.declared.spread.Spread.{Spread}
@@ -37,9 +37,8 @@ pickupVelocity = record { base = ofBits binary32 0x3eae_147b; span = ofBits bina
 abbrev pub bassGate : Float
 bassGate = ofBits binary32 0x3f66_6666
 
--- a 16th is 0.25 of a beat
 abbrev pub stepSOf : Float → Float
-stepSOf beatS = mul binary32 (ofBits binary32 0x3e80_0000) beatS
+stepSOf beatS = mul binary32 sixteenthBeats beatS
 
 -- eight bars
 abbrev pub loopSOf : Float → Float

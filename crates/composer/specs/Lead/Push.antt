@@ -4,7 +4,7 @@ use lib.Ieee.{Float, binary32, ofBits, eq, sub}
 use Rattle.streams.specs.Draw.{chanceOf}
 use Rattle.streams.specs.declared.stream.NoiseStream.{NoiseStream}
 use Rattle.composer.specs.Note.{zero32}
-use Rattle.composer.specs.Timing.{fractOf}
+use Rattle.composer.specs.Timing.{sixteenthBeats, fractOf}
 use Rattle.composer.specs.Lead.Beats.{addOf}
 use Rattle.composer.specs.declared.spread.Drawn.{Drawn}
 use Rattle.composer.specs.declared.lead.push.BeatsDraw.{BeatsDraw}
@@ -12,10 +12,6 @@ use Rattle.composer.specs.declared.lead.push.BeatsDraw.{BeatsDraw}
 -- 0.15
 abbrev pub pushP : Float
 pushP = ofBits binary32 0x3e19_999a
-
--- 0.25
-abbrev pub sixteenthBeats : Float
-sixteenthBeats = ofBits binary32 0x3e80_0000
 
 -- an on-beat note may land a sixteenth ahead; another draws nothing
 unfoldable pub pushOf : NoiseStream → Float → Drawn

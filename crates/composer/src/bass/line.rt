@@ -10,6 +10,7 @@ use crate::note::Note;
 use crate::spread::Spread;
 use crate::style::BassStyle;
 use crate::timing::BEATS_PER_BAR;
+use crate::timing::SIXTEENTH_BEATS;
 use streams::draw::ChanceDraw;
 use streams::draw::chance;
 use streams::stream::NoiseStream;
@@ -38,8 +39,6 @@ const PICKUP_VELOCITY: Spread = Spread {
 
 // How much of the time to its next note a note is held.
 const BASS_GATE: f32 = 0.9;
-
-const SIXTEENTH_BEATS: f32 = 0.25;
 
 // What a bar is played from: its number, its root's class and the next bar's, its steps and the next bar's first.
 pub struct BarPart {

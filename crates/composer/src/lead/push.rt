@@ -5,6 +5,7 @@ ghost use Rattle.composer.specs.Lead.Push.{pushOf, pushOnOf};
 use crate::lead::beats::Beats;
 use crate::lead::beats::add;
 use crate::spread::Drawn;
+use crate::timing::SIXTEENTH_BEATS;
 use crate::timing::fract;
 use streams::draw::chance;
 use streams::stream::NoiseStream;
@@ -17,8 +18,6 @@ pub struct BeatsDraw {
 
 // The chance that an on-beat note lands a sixteenth ahead.
 const PUSH_P: f32 = 0.15;
-
-const SIXTEENTH_BEATS: f32 = 0.25;
 
 // The lofi push of one beat.
 fn push(s: NoiseStream, beat: f32) -> Drawn
