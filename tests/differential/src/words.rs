@@ -69,13 +69,19 @@ fn bits(x: f32) -> u64 {
     x.to_bits().into()
 }
 
+/// The bits of a number that a song has: document 01 says that no NaN and no negative zero arises.
+fn plain(x: f32) -> u64 {
+    assert!(x.is_finite() && x.is_sign_positive(), "{x} in a song");
+    bits(x)
+}
+
 fn note_words(note: &Note, bar: u64) -> [u64; 5] {
     let midi = note.midi.into();
-    [bar, bits(note.at), midi, bits(note.vel), bits(note.dur)]
+    [bar, plain(note.at), midi, plain(note.vel), plain(note.dur)]
 }
 
 fn hit_words(hit: &Hit, bar: u64) -> [u64; 4] {
-    [bar, bits(hit.at), kind_code(hit), bits(hit.gain)]
+    [bar, plain(hit.at), kind_code(hit), plain(hit.gain)]
 }
 
 /// The entries of a lane, and zeros up to its capacity.
@@ -102,7 +108,7 @@ fn numbers(style: u8, take: &Take) -> [u64; 22] {
     [
         0,
         style.into(),
-        bits(score.bpm),
+        plain(score.bpm),
         voice_code(score),
         count(score.sparkle.len()),
         count(score.keys.len()),
