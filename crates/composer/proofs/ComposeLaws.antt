@@ -1,27 +1,30 @@
 -- Any other style is refused, and what holds of every song: each stage's laws, at its own stream. Assumes nothing.
-use mathlib.Core.Path.{_≡_, refl, sym, subst}
+use mathlib.Core.Path.{_≡_, refl, sym, ap, subst}
 use mathlib.Core.Bool.{Bool, true, false}
 use Prim.Native.Nat.{ℕ, zero, suc, _≤_}
 use native.Mathlib.Omega.{arith}
 use lib.Ieee.{Float}
+use lib.ListN.{length}
+use Rattle.laws.specs.Lists.{pad}
 use Rattle.streams.specs.Stage.{streamOf}
 use Rattle.streams.specs.declared.stage.Stage.{Stage}
 use Rattle.composer.specs.Compose.{beatSOf, stagesOf, composedOf, refusedOf, composeOf}
 use Rattle.composer.specs.Harmony.{melodyPcsOf, harmonyOf, Tonal}
-use Rattle.composer.specs.Promise.{ScorePromise, DrawsPromise, SongPromise}
+use Rattle.composer.specs.Promise.{LanesPromise, BarsPromise, ScorePromise, DrawsPromise, SongPromise}
 use Rattle.composer.specs.Tempo.{beatsOf, tempoOf}
 use Rattle.composer.specs.declared.harmony.Harmony.{Harmony}
 use Rattle.composer.specs.declared.harmony.Scale.{Scale}
+use Rattle.composer.specs.declared.refusal.Outcome.{Outcome}
 use Rattle.composer.specs.declared.refusal.Refusal.{Refusal}
 use Rattle.composer.specs.declared.style.Style.{Style}
-use Rattle.composer.proofs.DrumsLaws.{drums-laid, drums-occur, drums-counter}
-use Rattle.composer.proofs.HarmonyLaws.{harmony-tonal, harmony-counter, tonal-root}
+use Rattle.composer.proofs.DrumsLaws.{drums-laid, drums-occur, drums-few, drums-counter}
+use Rattle.composer.proofs.HarmonyLaws.{harmony-tonal, harmony-count, harmony-counter, tonal-root}
 use Rattle.composer.proofs.TempoLaws.{tempo-within, tempo-counter}
 use Rattle.composer.proofs.VoiceLaws.{voice-counter}
-use Rattle.composer.proofs.bass.PromiseLaws.{bass-laid, bass-occur, bass-sounds}
+use Rattle.composer.proofs.bass.PromiseLaws.{bass-laid, bass-occur, bass-few, bass-sounds}
 use Rattle.composer.proofs.keys.DrawLaws.{keys-counter}
-use Rattle.composer.proofs.keys.NoteLaws.{keys-laid}
-use Rattle.composer.proofs.lead.LeadLaws.{lead-laid, lead-fits}
+use Rattle.composer.proofs.keys.NoteLaws.{keys-laid, keys-few}
+use Rattle.composer.proofs.lead.LeadLaws.{lead-laid, lead-few, lead-fits}
 
 pub unknown-style : (style seed : ℕ) → 2 ≤ style → composeOf style seed ≡ refusedOf Refusal.UnknownStyle
 unknown-style zero seed h = absurd (omega arith)
@@ -39,6 +42,11 @@ unfolding melodyPcsOf
 pcs-most key true = omega arith
 pcs-most key false = omega arith
 
+pcs-size : (key : ℕ) (major : Bool) → length (melodyPcsOf key major .pcs) ≡ 6
+unfolding melodyPcsOf pad
+pcs-size key true = refl
+pcs-size key false = refl
+
 module _ (style : Style) (seed : ℕ) where
   abbrev harmony : Harmony
   harmony = harmonyOf (streamOf Stage.Harmony seed) style .harmony
@@ -49,6 +57,24 @@ module _ (style : Style) (seed : ℕ) where
   tonal : Tonal harmony
   tonal = harmony-tonal (streamOf Stage.Harmony seed) style
 
+  lanes-promise : LanesPromise (composedOf style seed .score)
+  unfolding composedOf stagesOf
+  lanes-promise = record {
+    lead = lead-laid (streamOf Stage.Lead seed) harmony tonal style beatS;
+    keys = keys-laid (streamOf Stage.Keys seed) harmony style beatS;
+    hits = drums-laid (streamOf Stage.Drums seed) style beatS;
+    bass = bass-laid (streamOf Stage.Bass seed) harmony style beatS tonal;
+  }
+
+  bars-promise : BarsPromise (composedOf style seed .score)
+  unfolding composedOf stagesOf
+  bars-promise = record {
+    lead = lead-few (streamOf Stage.Lead seed) harmony tonal style beatS;
+    keys = keys-few (streamOf Stage.Keys seed) harmony style beatS;
+    hits = drums-few (streamOf Stage.Drums seed) style beatS;
+    bass = bass-few (streamOf Stage.Bass seed) harmony style beatS tonal;
+  }
+
   score-promise : ScorePromise style (composedOf style seed .score) (composedOf style seed .scale)
   unfolding composedOf stagesOf tempoOf
   score-promise =
@@ -58,17 +84,17 @@ module _ (style : Style) (seed : ℕ) where
         tempo = refl;
         tempo-least = within .0;
         tempo-most = within .1;
+        chord-count = harmony-count (streamOf Stage.Harmony seed) style;
         chords = tonal-root harmony tonal;
-        lead = lead-laid (streamOf Stage.Lead seed) harmony tonal style beatS;
-        keys = keys-laid (streamOf Stage.Keys seed) harmony style beatS;
-        hits = drums-laid (streamOf Stage.Drums seed) style beatS;
-        bass = bass-laid (streamOf Stage.Bass seed) harmony style beatS tonal;
+        lanes = lanes-promise;
+        bars = bars-promise;
         hit-in-each = drums-occur (streamOf Stage.Drums seed) style beatS;
         bass-in-each = bass-occur (streamOf Stage.Bass seed) harmony style beatS tonal;
         lead-sings = λ i h. let f = lead-fits (streamOf Stage.Lead seed) harmony tonal style beatS i h in record { least = f .0; most = f .1; class = f .2 };
         bass-sounds = bass-sounds (streamOf Stage.Bass seed) harmony style beatS tonal;
         scale-least = subst (λ (x : Scale). 5 ≤ x .n) (sym (tonal .scale)) (pcs-least (tonal .key) (tonal .major));
         scale-most = subst (λ (x : Scale). x .n ≤ 6) (sym (tonal .scale)) (pcs-most (tonal .key) (tonal .major));
+        scale-size = subst (λ (x : Scale). length (x .pcs) ≡ 6) (sym (tonal .scale)) (pcs-size (tonal .key) (tonal .major));
       }
 
   draws-promise : DrawsPromise style (composedOf style seed .score) (composedOf style seed .counters)
@@ -84,3 +110,14 @@ module _ (style : Style) (seed : ℕ) where
   pub song-promise : SongPromise style (composedOf style seed)
   unfolding composedOf
   song-promise = record { done = refl; score = score-promise; draws = draws-promise }
+
+abbrev refusals : Outcome → ℕ
+refusals Outcome.Done = 0
+refusals (Outcome.Refused r) = 1
+
+-- whatever is not refused is a song
+pub done-promise : (style seed : ℕ) → composeOf style seed .outcome ≡ Outcome.Done → ScorePromise (composeOf style seed .score .style) (composeOf style seed .score) (composeOf style seed .scale)
+unfolding composedOf
+done-promise zero seed h = song-promise Style.Hiphop seed .score
+done-promise (suc zero) seed h = song-promise Style.Sleep seed .score
+done-promise (suc (suc n)) seed h = let e : _≡_ {A = ℕ} 1 0 = ap refusals h in absurd (omega (arith, e))

@@ -1,11 +1,11 @@
--- What the drums of every stream keep: at most 98 hits, each bar's in turn and none without one, and the draws that they take. Assumes nothing.
+-- What the drums of every stream keep: at most 98 hits, each bar's in turn, none without one and none with more than 13, and the draws that they take. Assumes nothing.
 use mathlib.Core.Path.{_≡_, sym, ap, _∙_}
 use mathlib.Core.Bool.{Bool}
 use Prim.Native.Nat.{ℕ, _+_, _*_, _^_, _≤_, _<_}
 use native.Mathlib.Omega.{arith}
-use lib.ListN.{getD}
+use lib.ListN.{take, getD}
 use lib.Ieee.{Float}
-use Rattle.laws.specs.Lanes.{Occurs, Laid}
+use Rattle.laws.specs.Lanes.{Occurs, EachAtMost, Laid}
 use Rattle.streams.specs.Stream.{after}
 use Rattle.streams.specs.Draw.{pickOf}
 use Rattle.streams.specs.Stage.{streamOf}
@@ -21,7 +21,7 @@ use Rattle.composer.specs.declared.style.Style.{Style}
 use Rattle.composer.specs.declared.style.Style.the-variants.{Hiphop, Sleep}
 use Rattle.composer.proofs.drums.GroovesLaws.{hiphop-snares, hiphop-eighths}
 use Rattle.composer.proofs.drums.DrawsLaws.{chancesTo, bars-made}
-use Rattle.composer.proofs.drums.BarsLaws.{lane-laid, lane-occurs}
+use Rattle.composer.proofs.drums.BarsLaws.{lane-laid, lane-occurs, lane-few}
 
 -- at most 98 hits, bar after bar, and zero behind them
 pub drums-laid : (s : NoiseStream) (style : Style) (beatS : Float) → Laid pastHit noHit hitBar 98 7 (drumsOf s style beatS .hits) (drumsOf s style beatS .count)
@@ -34,6 +34,12 @@ pub drums-occur : (s : NoiseStream) (style : Style) (beatS : Float) (b : ℕ) �
 unfolding drumsOf layGrooveOf
 drums-occur s Hiphop beatS = lane-occurs (hiphopGrooveOf (pickOf s 4 .value)) (hiphop-snares (pickOf s 4 .value)) beatS (pickOf s 4 .stream)
 drums-occur s Sleep beatS = lane-occurs sleepGroove (omega arith) beatS s
+
+-- at most 13 hits in any one bar
+pub drums-few : (s : NoiseStream) (style : Style) (beatS : Float) → EachAtMost hitBar 13 (take (drumsOf s style beatS .count) (drumsOf s style beatS .hits))
+unfolding drumsOf layGrooveOf
+drums-few s Hiphop beatS = lane-few (hiphopGrooveOf (pickOf s 4 .value)) (hiphop-snares (pickOf s 4 .value)) beatS (pickOf s 4 .stream)
+drums-few s Sleep beatS = lane-few sleepGroove (omega arith) beatS s
 
 -- a counter is a u64
 pub drums-stream : (s : NoiseStream) (style : Style) (beatS : Float) → s .counter < 2 ^ 64 → drumsOf s style beatS .stream ≡ after s (drumDrawsOf style (drumsOf s style beatS .count))

@@ -87,6 +87,14 @@ module _ (s : NoiseStream) (style : Style) where
         bar = λ k h. bar-at (c .value) row k (subst (λ (n : ℕ). k < n) (sym (row-length (a .value) (b .value) (pick-lt (a .stream) (rowsOf (a .value)) (rows-some (a .value))))) h);
       }
 
+  pub harmony-count : length (harmonyOf s style .harmony .bars) ≡ 8
+  unfolding harmonyOf harmonyIn chordsOf
+  harmony-count =
+      let a = chanceOf s (majorShareOf style) in
+      let b = pickOf (a .stream) (rowsOf (a .value)) in
+      let c = pickOf (b .stream) 12 in
+      length-map (loopAt (a .value) (b .value)) (chordIn (c .value)) ∙ row-length (a .value) (b .value) (pick-lt (a .stream) (rowsOf (a .value)) (rows-some (a .value)))
+
   harmony-advances : harmonyOf s style .stream ≡ after s 3
   unfolding harmonyOf
   harmony-advances =

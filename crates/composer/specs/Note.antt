@@ -5,6 +5,13 @@ use Rattle.composer.specs.declared.note.Note.{Note}
 use Rattle.composer.specs.declared.note.Hit.{Hit}
 use Rattle.composer.specs.declared.note.DrumKind.{DrumKind}
 
+-- document 01's number of each drum
+abbrev pub kindNumberOf : DrumKind → ℕ
+kindNumberOf DrumKind.Kick = 0
+kindNumberOf DrumKind.Snare = 1
+kindNumberOf DrumKind.Hat = 2
+kindNumberOf DrumKind.OpenHat = 3
+
 abbrev pub zero32 : Float
 zero32 = ofBits binary32 0
 

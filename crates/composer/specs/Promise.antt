@@ -2,9 +2,9 @@
 use mathlib.Core.Path.{_≡_}
 use mathlib.Core.Bool.{true}
 use Prim.Native.Nat.{ℕ, _%_, _≤_, _<_}
-use lib.ListN.{getD}
+use lib.ListN.{length, take, getD}
 use Rattle.laws.specs.Floats.{f32Of}
-use Rattle.laws.specs.Lanes.{Occurs, Laid}
+use Rattle.laws.specs.Lanes.{Occurs, EachAtMost, Laid}
 use Rattle.composer.specs.Bass.Promise.{SoundsIn}
 use Rattle.composer.specs.Chord.{pastChord, RootPosition}
 use Rattle.composer.specs.Drums.{drumDrawsOf}
@@ -26,26 +26,40 @@ pub record Sings (style : Style) (scale : Scale) (midi : ℕ) : Type 0 where
   pub most : midi ≤ leadStyleOf style .hi
   pub class : hasOf (poolOf scale) (midi % 12) ≡ true
 
+-- the four lanes
+pub record LanesPromise (s : Score) : Type 0 where
+  -- each within its capacity, in the order of its bars 0 to 7, unused entries zero
+  pub lead : Laid pastNote noNote noteBar 56 7 (s .lead) (s .«lead_count»)
+  pub keys : Laid pastNote noNote noteBar 128 7 (s .keys) (s .«keys_count»)
+  pub hits : Laid pastHit noHit hitBar 98 7 (s .hits) (s .«hit_count»)
+  pub bass : Laid pastNote noNote noteBar 104 7 (s .bass) (s .«bass_count»)
+
+-- at most so many events of each lane in any one bar
+pub record BarsPromise (s : Score) : Type 0 where
+  pub lead : EachAtMost noteBar 7 (take (s .«lead_count») (s .lead))
+  pub keys : EachAtMost noteBar 16 (take (s .«keys_count») (s .keys))
+  pub hits : EachAtMost hitBar 13 (take (s .«hit_count») (s .hits))
+  pub bass : EachAtMost noteBar 13 (take (s .«bass_count») (s .bass))
+
 pub record ScorePromise (style : Style) (score : Score) (scale : Scale) : Type 0 where
   -- the tempo is a whole number, within the style's window
   pub beats : ℕ
   pub tempo : score .bpm ≡ f32Of beats
   pub tempo-least : slowestOf style ≤ beats
   pub tempo-most : beats ≤ fastestOf style
+  pub chord-count : length (score .«bar_chords») ≡ 8
   pub chords : (b : ℕ) → b < 8 → RootPosition (getD (score .«bar_chords») b pastChord)
-  -- each lane within its capacity, in the order of its bars 0 to 7, unused entries zero
-  pub lead : Laid pastNote noNote noteBar 56 7 (score .lead) (score .«lead_count»)
-  pub keys : Laid pastNote noNote noteBar 128 7 (score .keys) (score .«keys_count»)
-  pub hits : Laid pastHit noHit hitBar 98 7 (score .hits) (score .«hit_count»)
-  pub bass : Laid pastNote noNote noteBar 104 7 (score .bass) (score .«bass_count»)
+  pub lanes : LanesPromise score
+  pub bars : BarsPromise score
   -- every loop bar has a hit and a bass note
   pub hit-in-each : (b : ℕ) → b < 8 → Occurs (λ i. hitBar (getD (score .hits) i pastHit)) (score .«hit_count») b
   pub bass-in-each : (b : ℕ) → b < 8 → Occurs (λ i. noteBar (getD (score .bass) i pastNote)) (score .«bass_count») b
   pub lead-sings : (i : ℕ) → i < score .«lead_count» → Sings style scale (getD (score .lead) i pastNote .midi)
   pub bass-sounds : (i : ℕ) → i < score .«bass_count» → SoundsIn (score .«bar_chords») (getD (score .bass) i pastNote)
-  -- five or six pitch classes
+  -- five or six pitch classes, in an array of six
   pub scale-least : 5 ≤ scale .n
   pub scale-most : scale .n ≤ 6
+  pub scale-size : length (scale .pcs) ≡ 6
 
 -- the counters are the draws of each stage
 pub record DrawsPromise (style : Style) (score : Score) (counters : Counters) : Type 0 where

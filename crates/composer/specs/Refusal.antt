@@ -5,8 +5,10 @@ use Rattle.composer.specs.declared.refusal.Outcome.{Outcome}
 
 abbrev pub numberOf : Refusal → ℕ
 numberOf Refusal.UnknownStyle = 1
+numberOf Refusal.ShortBuffer = 2
 numberOf Refusal.NoSuchBar = 3
 numberOf Refusal.Malformed = 4
+numberOf Refusal.WrongLength = 5
 
 pub data Answer (A : Type 0) : Type 0 where
   Gives : A → Answer A

@@ -1,5 +1,6 @@
 -- The two styles, and every knob their songs are written with. Definitions only.
 use mathlib.Core.Bool.{false}
+use Prim.Native.Nat.{ℕ}
 use lib.Ieee.{Float, binary32, ofBits}
 use Rattle.streams.specs.Draw.{chanceOf}
 use Rattle.streams.specs.declared.stream.NoiseStream.{NoiseStream}
@@ -14,6 +15,11 @@ use Rattle.composer.specs.declared.style.Density.{Density}
 use Rattle.composer.specs.declared.style.Comp.{Comp}
 use Rattle.composer.specs.declared.style.KeysStyle.{KeysStyle}
 use Rattle.composer.specs.declared.style.BassStyle.{BassStyle}
+
+-- document 01's number of each style
+abbrev pub styleNumberOf : Style → ℕ
+styleNumberOf Hiphop = 0
+styleNumberOf Sleep = 1
 
 -- what a style never does takes no draw
 unfoldable pub oddsOf : Odds → NoiseStream → ChanceDraw

@@ -1,4 +1,6 @@
 // What a lane plays: notes and drum hits. Each has the loop bar that it was drawn for.
+ghost use mathlib.Core.Path.{_≡_};
+ghost use Rattle.composer.specs.Note.{kindNumberOf};
 
 // Its time, in seconds into the loop, its pitch (MIDI), its velocity, and how long it is held, in seconds.
 pub struct Note {
@@ -14,6 +16,20 @@ pub enum DrumKind {
     Snare,
     Hat,
     OpenHat,
+}
+
+impl DrumKind {
+    // Its number on a sheet.
+    pub fn number(self) -> u8
+        ensures { λ r. ⌜ r ≡ kindNumberOf self ⌝ }
+    {
+        match self {
+            DrumKind::Kick => 0,
+            DrumKind::Snare => 1,
+            DrumKind::Hat => 2,
+            DrumKind::OpenHat => 3,
+        }
+    }
 }
 
 pub struct Hit {

@@ -4,8 +4,10 @@ ghost use Rattle.composer.specs.Refusal.{numberOf};
 
 pub enum Refusal {
     UnknownStyle,
+    ShortBuffer,
     NoSuchBar,
     Malformed,
+    WrongLength,
 }
 
 impl Refusal {
@@ -15,8 +17,10 @@ impl Refusal {
     {
         match self {
             Refusal::UnknownStyle => 1,
+            Refusal::ShortBuffer => 2,
             Refusal::NoSuchBar => 3,
             Refusal::Malformed => 4,
+            Refusal::WrongLength => 5,
         }
     }
 }

@@ -1,6 +1,6 @@
 // The two styles, and every knob their songs are written with.
 ghost use mathlib.Core.Path.{_≡_};
-ghost use Rattle.composer.specs.Style.{oddsOf, majorShareOf, bpmOf, leadStyleOf, keysStyleOf, bassStyleOf};
+ghost use Rattle.composer.specs.Style.{styleNumberOf, oddsOf, majorShareOf, bpmOf, leadStyleOf, keysStyleOf, bassStyleOf};
 use crate::spread::Spread;
 use crate::spread::between;
 use streams::draw::ChanceDraw;
@@ -10,6 +10,18 @@ use streams::stream::NoiseStream;
 pub enum Style {
     Hiphop,
     Sleep,
+}
+
+impl Style {
+    // Its number on a sheet.
+    pub fn number(self) -> u8
+        ensures { λ r. ⌜ r ≡ styleNumberOf self ⌝ }
+    {
+        match self {
+            Style::Hiphop => 0,
+            Style::Sleep => 1,
+        }
+    }
 }
 
 // The chance of what a style may not do at all.

@@ -1,13 +1,19 @@
 -- An array that grows at its count: what is in use stays, and what each step adds is known. Assumes nothing.
 use mathlib.Core.Path.{_≡_, refl, sym, ap, _∙_, subst}
 use mathlib.Core.Logic.{_⊎_, inl, inr, ⊎-elim}
+use mathlib.Core.Bool.{Bool, true, false}
 use mathlib.Core.List.{List}
 use Prim.Native.Nat.{ℕ, zero, suc, _+_, _-_, _≤_, _<_}
 use native.Mathlib.Nat.{eq-zero-or-pos, eq-or-lt-of-le, le-of-suc-le-suc}
 use native.Mathlib.Omega.{arith}
-use lib.ListN.{length, set, getD, replicate, length-set, length-replicate, getD-replicate}
-use lib.Seq.{getD-set-same, getD-set-other}
-use Rattle.laws.specs.Lanes.{Rises, Occurs, Laid}
+use borrow.Author.Tests.{eqb-true, eqb-false, ne-eqb}
+use lib.Dec.{eqb}
+use lib.ListN.{length, take, drop, set, getD, replicate, length-set, length-take, length-replicate, getD-replicate}
+use lib.Seq.{getD-set-same, getD-set-other, getD-drop}
+use Rattle.laws.specs.Lanes.{Rises, Occurs, EachAtMost, Laid}
+use Rattle.laws.specs.Sorts.{count}
+use Rattle.laws.proofs.Counts.{count-split, count-most, count-none, count-same}
+use Rattle.laws.proofs.Sorts.{all-by}
 
 -- ys with m entries in use, grown from xs with n: each entry that is new has P, and all others stay
 pub record Grown {A : Type 0} (d : A) (P : A → Type 0) (xs ys : List A) (n m : ℕ) : Type 0 where
@@ -16,6 +22,9 @@ pub record Grown {A : Type 0} (d : A) (P : A → Type 0) (xs ys : List A) (n m :
   pub kept : (i : ℕ) → i < n → getD ys i d ≡ getD xs i d
   pub rest : (i : ℕ) → m ≤ i → getD ys i d ≡ getD xs i d
   pub new : (i : ℕ) → n ≤ i → i < m → P (getD ys i d)
+
+none-pass : {A : Type 0} (p : A → Bool) (d : A) (xs : List A) (n : ℕ) → ((i : ℕ) → i < n → p (getD xs i d) ≡ false) → count p (take n xs) ≡ 0
+none-pass p d xs n h = count-none p (take n xs) (all-by (λ x. p x ≡ false) d xs n h)
 
 in-use : (i n : ℕ) → (i < n) ⊎ (n ≤ i)
 in-use i n = ⊎-elim (λ (e : n - i ≡ 0). inr (omega arith)) (λ (h : 0 < n - i). inl (omega arith)) (eq-zero-or-pos (n - i))
@@ -82,6 +91,32 @@ module _ {A : Type 0} (d : A) where
       occurs-new : n < m → Occurs (λ i. f (getD ys i d)) m v
       occurs-new h = record { place = n; until = h; is = g .new n (omega arith) h }
 
+      -- a few entries of v behind entries below v
+      each-grown : (most : ℕ) → m ≤ n + most → m ≤ length ys → ((i : ℕ) → i < n → f (getD xs i d) < v) → EachAtMost f most (take n xs) → EachAtMost f most (take m ys)
+      each-grown most few fits below each u = go (eqb u v) refl
+        where
+          is : A → Bool
+          is x = eqb (f x) u
+
+          old : count is (take n ys) ≡ count is (take n xs)
+          old = count-same is is d d ys xs n (omega (arith, g .more)) (omega (arith, g .more, g .size)) (λ i h. ap is (g .kept i h))
+
+          split : count is (take m ys) ≡ count is (take n xs) + count is (take (m - n) (drop n ys))
+          split = omega (arith, old, count-split is ys n m (g .more))
+
+          none-old : u ≡ v → count is (take n xs) ≡ 0
+          none-old e = none-pass is d xs n (λ i h. ne-eqb (f (getD xs i d)) u (λ q. omega (arith, below i h)))
+
+          of-v : (i : ℕ) → i < m - n → f (getD (drop n ys) i d) ≡ v
+          of-v i h = ap f (getD-drop n ys i d) ∙ g .new (n + i) (omega arith) (omega arith)
+
+          none-new : (u ≡ v → ⊥) → count is (take (m - n) (drop n ys)) ≡ 0
+          none-new e = none-pass is d (drop n ys) (m - n) (λ i h. ne-eqb (f (getD (drop n ys) i d)) u (λ q. e (sym q ∙ of-v i h)))
+
+          go : (t : Bool) → eqb u v ≡ t → count is (take m ys) ≤ most
+          go true e = omega (arith, split, none-old (eqb-true u v e), count-most is (take (m - n) (drop n ys)), length-take (m - n) (drop n ys))
+          go false e = omega (arith, split, none-new (eqb-false u v e), each u)
+
     occurs-kept : (P : A → Type 0) (v : ℕ) → Grown d P xs ys n m → Occurs (λ i. f (getD xs i d)) n v → Occurs (λ i. f (getD ys i d)) m v
     occurs-kept P v g o = record { place = o .place; until = omega (arith, g .more, o .until); is = ap f (g .kept (o .place) (o .until)) ∙ o .is }
 
@@ -125,3 +160,15 @@ module _ {A : Type 0} (d none : A) (f : A → ℕ) (cap bars : ℕ) (xs : ℕ �
       let g = bar-grown b (omega arith) in
       ⊎-elim (λ (e : k ≡ b). rw e (occurs-new d f (xs b) (xs (suc b)) (n b) (n (suc b)) b g (more b (omega arith))))
       (λ (e : k < b). occurs-kept d f (xs b) (xs (suc b)) (n b) (n (suc b)) (λ a. f a ≡ b) k g (bars-occur more b k (omega arith) e)) (eq-or-lt-of-le (le-of-suc-le-suc l))
+
+  bars-below : (b : ℕ) → b ≤ bars → (i : ℕ) → i < n b → f (getD (xs b) i d) < b
+  bars-below zero h i k = absurd (omega (arith, empty))
+  bars-below (suc b) h i k = omega (arith, bars-laid (suc b) h .rises .most i k)
+
+  -- where each bar adds at most so many entries, none has more
+  pub bars-few : (most : ℕ) → ((b : ℕ) → b < bars → n (suc b) ≤ n b + most) → (b : ℕ) → b ≤ bars → EachAtMost f most (take (n b) (xs b))
+  bars-few most on zero h = λ u. rw empty (omega arith)
+  bars-few most on (suc b) h =
+      let after = bars-laid (suc b) h in
+      each-grown d f (xs b) (xs (suc b)) (n b) (n (suc b)) b (bar-grown b (omega arith)) most (on b (omega arith)) (omega (arith, after .few, after .size))
+      (bars-below b (omega arith)) (bars-few most on b (omega arith))

@@ -8,8 +8,8 @@ use Prim.Native.Nat.{ℕ, zero, suc, _+_, _-_, _<_, _≤_}
 use native.Mathlib.Numerals.{add-one}
 use native.Mathlib.Nat.{not-suc-le-zero, le-of-suc-le-suc, eq-or-lt-of-le, add-zero, sub-zero}
 use native.Mathlib.Omega.{arith}
-use lib.ListN.{length, set, take, drop, replicate, getD, length-append, length-map, length-replicate, List·getD-append}
-use lib.Seq.{take-length, take-suc, take-all, length-take-le, drop-cons, drop-length, set-at, getD-append-add}
+use lib.ListN.{length, set, take, drop, replicate, getD, length-append, length-map, length-replicate, List·getD-append, List·getD-map}
+use lib.Seq.{take-length, take-suc, take-all, length-take-le, drop-cons, drop-length, set-at, getD-append-add, getD-take}
 use lib.Dec.{T}
 use mir.Facts.{and-yes}
 use Rattle.laws.specs.Lists.{listTo, pad, anyOf, allOf}
@@ -127,3 +127,16 @@ module _ {A B : Type 0} (f : A → B) (z : B) (cap : ℕ) (xs : List A) where
 
   pub map-full : (i : ℕ) → i ≡ cap → length xs ≡ cap → pad z cap (map f (take i xs)) ≡ map f xs
   map-full i e h = rw (take-all i xs (omega arith)) (pad-full z cap (map f xs) (length-map xs f ∙ h))
+
+-- f of the first n entries
+module _ {A B : Type 0} (f : A → B) where
+  pub length-map-take : (xs : List A) (n : ℕ) → n ≤ length xs → length (map f (take n xs)) ≡ n
+  length-map-take xs n h = length-map (take n xs) f ∙ length-take-le n xs h
+
+  pub map-take-at : (xs : List A) (n i : ℕ) (d : A) (e : B) → i < n → n ≤ length xs → getD (map f (take n xs)) i e ≡ f (getD xs i d)
+  map-take-at xs n i d e h k =
+      getD-any (map f (take n xs)) i e (f d) (omega (arith, length-map-take xs n k)) ∙ List·getD-map f (take n xs) i d ∙ ap f (getD-take n xs i d h)
+
+  -- of one entry more
+  pub map-take-on : (xs : List A) (i : ℕ) (d : A) → i < length xs → map f (take (i + 1) xs) ≡ map f (take i xs) ++ (f (getD xs i d) ∷ [])
+  map-take-on xs i d h = rw (add-one i, take-suc xs i d h, map-append)

@@ -4,3 +4,4 @@ pub mod Lists
 pub mod Order
 pub mod Runs
 pub mod Sorts
+pub mod Writes

@@ -1,5 +1,5 @@
 -- Words for lists. Definitions only.
-use mathlib.Core.Bool.{Bool, true, false, _&&_, _||_}
+use mathlib.Core.Bool.{Bool, true, false, _&&_, _||_, cond}
 use mathlib.Core.List.{List, [], _∷_, _++_}
 use Prim.Native.Nat.{ℕ, zero, suc, _+_, _-_}
 use lib.ListN.{length, replicate, take, drop}
@@ -27,3 +27,13 @@ module _ {A : Type 0} where
   unfoldable pub allOf : (A → Bool) → List A → Bool
   allOf p [] = true
   allOf p (x ∷ xs) = p x && allOf p xs
+
+  -- the entries that pass a test, in their order
+  unfoldable pub filterOf : (A → Bool) → List A → List A
+  filterOf p [] = []
+  filterOf p (x ∷ xs) = cond (p x) (x ∷ filterOf p xs) (filterOf p xs)
+
+  -- the lists, one after the other
+  unfoldable pub joined : List (List A) → List A
+  joined [] = []
+  joined (xs ∷ xss) = xs ++ joined xss

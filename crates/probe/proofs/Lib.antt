@@ -1,2 +1,3 @@
+pub mod CountersLaws
 pub mod DrawsLaws
 pub mod FormsLaws

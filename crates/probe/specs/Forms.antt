@@ -12,7 +12,7 @@ use Rattle.composer.specs.Form.{introBarsOf, outroBarsOf, leadInOf}
 use Rattle.composer.specs.Form.Ask.{beatlessOf}
 use Rattle.composer.specs.Form.Decisions.{decideOf}
 use Rattle.composer.specs.Form.Ends.{endCodeOf, outroCodeOf}
-use Rattle.composer.specs.Form.Plays.{silent}
+use Rattle.composer.specs.Form.Plays.{bitsOf, silent}
 use Rattle.composer.specs.Form.Song.{arrangeOf}
 use Rattle.composer.specs.declared.refusal.Outcome.{Outcome}
 use Rattle.composer.specs.declared.form.Form.{Form}
@@ -25,9 +25,6 @@ use Rattle.composer.specs.declared.form.plays.Plays.{Plays}
 use Rattle.probe.specs.Draws.{flagOf}
 
 -- ---- words
-abbrev pub bitsOf : Plays → ℕ
-bitsOf p = flagOf (p .pad) + 2 * flagOf (p .keys) + 4 * flagOf (p .drums) + 8 * flagOf (p .bass)
-
 -- n bars from `from` on, four bits each, the first bar highest
 unfoldable pub barsWordOf : List Plays → ℕ → ℕ → ℕ
 barsWordOf ps from zero = 0

@@ -1,3 +1,4 @@
+pub mod Counters
 pub mod Draws
 pub mod Forms
 pub mod Kicks

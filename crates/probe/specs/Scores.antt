@@ -7,29 +7,18 @@ use lib.ListN.{getD}
 use lib.Ieee.{binary32, toBits}
 use Rattle.composer.specs.Chord.{pastChord}
 use Rattle.composer.specs.Kicks.{unbeatenOf}
-use Rattle.composer.specs.Note.{pastNote, pastHit}
+use Rattle.composer.specs.Note.{kindNumberOf, pastNote, pastHit}
+use Rattle.composer.specs.Style.{styleNumberOf}
 use Rattle.composer.specs.Voice.{voiceNumberOf}
 use Rattle.composer.specs.declared.chord.Chord.{Chord}
 use Rattle.composer.specs.declared.compose.Composed.{Composed}
 use Rattle.composer.specs.declared.harmony.Scale.{Scale}
-use Rattle.composer.specs.declared.note.DrumKind.{DrumKind}
 use Rattle.composer.specs.declared.note.Hit.{Hit}
 use Rattle.composer.specs.declared.note.Note.{Note}
 use Rattle.composer.specs.declared.refusal.Outcome.{Outcome}
 use Rattle.composer.specs.declared.score.Counters.{Counters}
 use Rattle.composer.specs.declared.score.Score.{Score}
-use Rattle.composer.specs.declared.style.Style.{Style}
 use Rattle.probe.specs.Forms.{outcomeNumberOf}
-
-abbrev pub styleNumberOf : Style → ℕ
-styleNumberOf Style.Hiphop = 0
-styleNumberOf Style.Sleep = 1
-
-abbrev pub kindNumberOf : DrumKind → ℕ
-kindNumberOf DrumKind.Kick = 0
-kindNumberOf DrumKind.Snare = 1
-kindNumberOf DrumKind.Hat = 2
-kindNumberOf DrumKind.OpenHat = 3
 
 -- ---- parts
 -- the refusal, the style, the tempo, the lead's voice, and how many events each lane has

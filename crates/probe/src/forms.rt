@@ -7,7 +7,7 @@ ghost use Rattle.composer.specs.Form.Ask.{playsOf};
 ghost use Rattle.composer.specs.Form.Song.{arrangeOf};
 ghost use Rattle.composer.specs.Form.Spans.{spansOf, spansNumberOf};
 ghost use Rattle.composer.specs.Refusal.{numberOf};
-ghost use Rattle.probe.specs.Forms.{bitsOf, barsWordOf, fourOf, headOf, formWordOf, counterOf, outcomeNumberOf, beatlessWordOf, playsNumberOf, endBy, outroBy, madeOf};
+ghost use Rattle.probe.specs.Forms.{barsWordOf, fourOf, headOf, formWordOf, counterOf, outcomeNumberOf, beatlessWordOf, playsNumberOf, endBy, outroBy, madeOf};
 use crate::draws::flag;
 use composer::form::Form;
 use composer::form::ask::PlaysAnswer;
@@ -25,18 +25,6 @@ use composer::refusal::Outcome;
 use composer::refusal::Refusal;
 use streams::stage::Stage;
 
-// A bar's layers: 1 the pad, 2 the keys, 4 the drums, 8 the bass.
-fn bits(p: Plays) -> u64
-    ensures { λ r. ⌜ r ≡ bitsOf p ⌝ }
-    ensures { λ r. ⌜ r < 16 ⌝ }
-{
-    let pad = flag(p.pad);
-    let keys = flag(p.keys);
-    let drums = flag(p.drums);
-    let bass = flag(p.bass);
-    pad + 2 * keys + 4 * drums + 8 * bass
-}
-
 // 16 bars from `from` on, four bits each, the first bar highest.
 fn bars_word(plays: [Plays; 64], from: usize) -> u64
     requires { ⌜ from + 16 ≤ 64 ⌝ }
@@ -46,7 +34,7 @@ fn bars_word(plays: [Plays; 64], from: usize) -> u64
     let mut i: usize = 0;
     while i < 16 {
         let p = plays[from + i];
-        w = w * 16 + bits(p);
+        w = w * 16 + p.bits() as u64;
         i += 1;
     }
     w
@@ -109,14 +97,11 @@ fn beatless_word(f: Form, k: u8) -> u64
     word(form, k)
 }
 
-fn minus_number(r: Refusal) -> i64
+// Minus the number of the refusal.
+pub fn minus_number(r: Refusal) -> i64
     ensures { λ n. ⌜ n ≡ negℤ (pos (numberOf r)) ⌝ }
 {
-    match r {
-        Refusal::UnknownStyle => -1,
-        Refusal::NoSuchBar => -3,
-        Refusal::Malformed => -4,
-    }
+    -(r.number() as i64)
 }
 
 // The bar's layers, or minus the number of the refusal.
@@ -124,7 +109,7 @@ fn plays_number(a: PlaysAnswer) -> i64
     ensures { λ r. ⌜ r ≡ playsNumberOf a ⌝ }
 {
     match a {
-        PlaysAnswer::Found(p) => bits(p) as i64,
+        PlaysAnswer::Found(p) => p.bits() as i64,
         PlaysAnswer::Refused(r) => minus_number(r),
     }
 }

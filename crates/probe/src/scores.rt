@@ -5,41 +5,19 @@ ghost use Prim.Native.Nat.{_<_};
 ghost use lib.ListN.{length};
 ghost use Rattle.laws.specs.Lists.{listTo};
 ghost use Rattle.composer.specs.Compose.{composeOf};
-ghost use Rattle.probe.specs.Scores.{styleNumberOf, kindNumberOf, numbersOf, countersOf, scaleWordOf, chordWordOf, noteWordsOf, hitWordsOf, headWordOf, laneWordOf, wordOf, unbeatenSong};
+ghost use Rattle.probe.specs.Scores.{numbersOf, countersOf, scaleWordOf, chordWordOf, noteWordsOf, hitWordsOf, headWordOf, laneWordOf, wordOf, unbeatenSong};
 use crate::forms::outcome_number;
 use composer::chord::Chord;
 use composer::compose::Composed;
 use composer::compose::compose;
 use composer::harmony::Scale;
 use composer::kicks::unbeaten;
-use composer::note::DrumKind;
 use composer::note::Hit;
 use composer::note::Note;
 use composer::refusal::Outcome;
 use composer::score::Counters;
 use composer::score::Score;
-use composer::style::Style;
 use streams::float::bits_of;
-
-fn style_number(style: Style) -> u64
-    ensures { λ r. ⌜ r ≡ styleNumberOf style ⌝ }
-{
-    match style {
-        Style::Hiphop => 0,
-        Style::Sleep => 1,
-    }
-}
-
-fn kind_number(kind: DrumKind) -> u64
-    ensures { λ r. ⌜ r ≡ kindNumberOf kind ⌝ }
-{
-    match kind {
-        DrumKind::Kick => 0,
-        DrumKind::Snare => 1,
-        DrumKind::Hat => 2,
-        DrumKind::OpenHat => 3,
-    }
-}
 
 // The refusal, 0 for none, the style, the tempo, the lead's voice, and how many events each lane has.
 fn numbers(outcome: Outcome, s: Score) -> [u64; 8]
@@ -48,12 +26,12 @@ fn numbers(outcome: Outcome, s: Score) -> [u64; 8]
     let style = s.style;
     let voice = s.lead_voice;
     let refusal = outcome_number(outcome);
-    let style_no = style_number(style);
+    let style_no = style.number();
     let tempo = bits_of(s.bpm);
     let voice_no = voice.number();
     [
         refusal,
-        style_no,
+        style_no as u64,
         tempo as u64,
         voice_no as u64,
         s.lead_count as u64,
@@ -63,7 +41,8 @@ fn numbers(outcome: Outcome, s: Score) -> [u64; 8]
     ]
 }
 
-fn counts(c: Counters) -> [u64; 7]
+// The counters: harmony, tempo, lead, keys, drums, bass, voice.
+pub fn counts(c: Counters) -> [u64; 7]
     ensures { λ r. ⌜ r ≡ countersOf c ⌝ }
 {
     [c.harmony, c.tempo, c.lead, c.keys, c.drums, c.bass, c.voice]
@@ -111,9 +90,9 @@ fn hit_words(h: Hit) -> [u64; 4]
 {
     let at = bits_of(h.at);
     let kind = h.kind;
-    let kind_no = kind_number(kind);
+    let kind_no = kind.number();
     let gain = bits_of(h.gain);
-    [h.bar as u64, at as u64, kind_no, gain as u64]
+    [h.bar as u64, at as u64, kind_no as u64, gain as u64]
 }
 
 // A word before the lanes.

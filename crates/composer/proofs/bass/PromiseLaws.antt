@@ -1,13 +1,13 @@
--- What every bass line keeps: at most 104 notes and zeroes behind them, the bars in order and none without a note, and in each
--- bar its root, its fifth and the note under the next root alone. Assumes nothing.
+-- What every bass line keeps: at most 104 notes and zeroes behind them, the bars in order, none without a note and
+-- none with more than 13, and in each bar its root, its fifth and the note under the next root alone. Assumes nothing.
 use mathlib.Core.Path.{_≡_, refl}
 use mathlib.Core.List.{List}
-use Prim.Native.Nat.{ℕ, zero, suc, _-_, _*_, _≤_, _<_}
+use Prim.Native.Nat.{ℕ, zero, suc, _+_, _-_, _*_, _≤_, _<_}
 use native.Mathlib.Omega.{arith}
-use lib.ListN.{getD, length}
+use lib.ListN.{getD, length, take}
 use lib.Ieee.{Float}
-use Rattle.laws.specs.Lanes.{Occurs, Laid}
-use Rattle.laws.proofs.Lanes.{Grown, grown-none, grown-then, grown-as, bars-laid, bars-occur}
+use Rattle.laws.specs.Lanes.{Occurs, EachAtMost, Laid}
+use Rattle.laws.proofs.Lanes.{Grown, grown-none, grown-then, grown-as, bars-laid, bars-occur, bars-few}
 use Rattle.streams.specs.declared.stream.NoiseStream.{NoiseStream}
 use Rattle.composer.specs.Note.{noNote, pastNote, noteBar}
 use Rattle.composer.specs.Style.{bassStyleOf}
@@ -46,6 +46,12 @@ module _ (h : Harmony) (tonal : Tonal h) (rs : List Steps) (rising : (b : ℕ) �
       let p = partOf (h .bars) rs b in
       omega (arith, bar-count (laneTo b) p style beatS (p .steps .n), part-playable h tonal rs rising b k .steps .some)
 
+  count-few : (b : ℕ) → b < 8 → laneTo (suc b) .count ≤ laneTo b .count + 13
+  unfolding barsPlayed
+  count-few b k =
+      let p = partOf (h .bars) rs b in
+      omega (arith, bar-count (laneTo b) p style beatS (p .steps .n), part-playable h tonal rs rising b k .steps .few)
+
   bar-on : (b : ℕ) → b < 8 → length (laneTo b .notes) ≡ 104
       → Grown pastNote (BarNote b) (laneTo b .notes) (laneTo (suc b) .notes) (laneTo b .count) (laneTo (suc b) .count)
   unfolding barsPlayed
@@ -75,6 +81,9 @@ module _ (h : Harmony) (tonal : Tonal h) (rs : List Steps) (rising : (b : ℕ) �
   pub lane-occurs : (b k : ℕ) → b ≤ 8 → k < b → Occurs (λ i. noteBar (getD (laneTo b .notes) i pastNote)) (laneTo b .count) k
   lane-occurs = bars-occur pastNote noNote noteBar 104 8 (λ b. laneTo b .notes) (λ b. laneTo b .count) start empty few lane-bar count-on
 
+  pub lane-few : (b : ℕ) → b ≤ 8 → EachAtMost noteBar 13 (take (laneTo b .count) (laneTo b .notes))
+  lane-few = bars-few pastNote noNote noteBar 104 8 (λ b. laneTo b .notes) (λ b. laneTo b .count) start empty few lane-bar 13 count-few
+
   pub lane-grown : (b : ℕ) → b ≤ 8 → Grown pastNote (SoundsIn (h .bars)) (noBass s .notes) (laneTo b .notes) 0 (laneTo b .count)
   unfolding barsPlayed
   lane-grown zero k = grown-none pastNote (SoundsIn (h .bars)) (noBass s .notes) 0
@@ -96,6 +105,11 @@ module _ (s : NoiseStream) (h : Harmony) (style : Style) (beatS : Float) (tonal 
   pub bass-occur : (b : ℕ) → b < 8 → Occurs (λ i. noteBar (getD (drawn .notes) i pastNote)) (drawn .count) b
   unfolding bassOf
   bass-occur b k = lane-occurs h tonal (bassRhythmsOf s .bars) (rhythms-rising s) (bassStyleOf style) beatS (bassRhythmsOf s .stream) 8 b (omega arith) k
+
+  -- at most 13 notes in any one bar
+  pub bass-few : EachAtMost noteBar 13 (take (drawn .count) (drawn .notes))
+  unfolding bassOf
+  bass-few = lane-few h tonal (bassRhythmsOf s .bars) (rhythms-rising s) (bassStyleOf style) beatS (bassRhythmsOf s .stream) 8 (omega arith)
 
   -- root, fifth, or the next root less 1
   pub bass-sounds : (i : ℕ) → i < drawn .count → SoundsIn (h .bars) (getD (drawn .notes) i pastNote)

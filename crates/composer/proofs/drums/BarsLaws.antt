@@ -1,14 +1,14 @@
--- The hits of a bar follow those of the bars before it, and all carry its number. Assumes nothing.
+-- The hits of a bar follow those of the bars before it, all carry its number, and they are at most 13. Assumes nothing.
 use mathlib.Core.Path.{_≡_, refl}
 use mathlib.Core.Bool.{_&&_}
 use Prim.Native.Nat.{ℕ, zero, suc, _+_, _%_, _≤_, _<_}
 use native.Mathlib.Omega.{arith}
 use lib.Dec.{eqb}
-use lib.ListN.{length, getD}
+use lib.ListN.{length, take, getD}
 use lib.Ieee.{Float}
-use Rattle.laws.specs.Lanes.{Occurs, Laid}
+use Rattle.laws.specs.Lanes.{Occurs, EachAtMost, Laid}
 use Rattle.laws.proofs.Bools.{either}
-use Rattle.laws.proofs.Lanes.{Grown, grown-none, grown-push, grown-then, bars-laid, bars-occur}
+use Rattle.laws.proofs.Lanes.{Grown, grown-none, grown-push, grown-then, bars-laid, bars-occur, bars-few}
 use Rattle.streams.specs.Draw.{chanceOf}
 use Rattle.streams.specs.declared.stream.NoiseStream.{NoiseStream}
 use Rattle.composer.specs.Note.{noHit, pastHit, hitBar}
@@ -21,7 +21,7 @@ use Rattle.composer.specs.declared.drums.DrumLane.{DrumLane}
 use Rattle.composer.specs.declared.drums.grooves.Kick.{Kick}
 use Rattle.composer.specs.declared.drums.grooves.Groove.{Groove}
 use Rattle.composer.specs.declared.drums.kit.Bar.{Bar}
-use Rattle.composer.proofs.drums.KitLaws.{kick-count, kicks-most, snares-count, hats-most, bar-least, bars-most}
+use Rattle.composer.proofs.drums.KitLaws.{kick-count, kicks-most, snares-count, hats-most, bar-least, bar-most, bars-most}
 
 abbrev InBar : ℕ → Hit → Type 0
 InBar b h = h .bar ≡ b
@@ -123,3 +123,10 @@ module _ (g : Groove) (snares : g .«snare_count» ≤ 2) (beatS : Float) (s : N
 
   pub lane-occurs : (b : ℕ) → b < 8 → Occurs (λ i. hitBar (getD (laneTo 8 .hits) i pastHit)) (laneTo 8 .count) b
   lane-occurs b h = bars-occur pastHit noHit hitBar 98 8 (λ n. laneTo n .hits) (λ n. laneTo n .count) start empty few lane-bar more 8 b (omega arith) h
+
+  bar-few : (n : ℕ) → n < 8 → laneTo (suc n) .count ≤ laneTo n .count + 13
+  unfolding barsTo
+  bar-few n h = omega (arith, bar-most (laneTo n) g beatS snares n)
+
+  pub lane-few : EachAtMost hitBar 13 (take (laneTo 8 .count) (laneTo 8 .hits))
+  lane-few = bars-few pastHit noHit hitBar 98 8 (λ n. laneTo n .hits) (λ n. laneTo n .count) start empty few lane-bar 13 bar-few 8 (omega arith)

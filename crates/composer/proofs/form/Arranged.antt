@@ -6,11 +6,13 @@ use native.Mathlib.Omega.{arith}
 use borrow.Author.Tests.{eq-eqb, ne-eqb}
 use lib.Dec.{leb, eqb}
 use lib.ListN.{getD}
+use Rattle.laws.specs.Lists.{listTo}
+use Rattle.laws.proofs.Lists.{length-pad, length-list-to}
 use Rattle.composer.specs.Refusal.{Gives}
 use Rattle.composer.specs.Form.{introBarsOf}
 use Rattle.composer.specs.Form.Plays.{silent}
 use Rattle.composer.specs.Form.Body.{isBreak, wholeBreak, cutAt, cutHeard, bodyBarOf}
-use Rattle.composer.specs.Form.Song.{introOf, outroOf, introLength, formOf, decisionsOf, arrangeOf}
+use Rattle.composer.specs.Form.Song.{introOf, outroOf, introLength, songLength, songBarOf, formOf, decisionsOf, arrangeOf}
 use Rattle.composer.specs.Form.Promise.{BodyPromise, playsAt, bodyStrikes, FormPromise}
 use Rattle.composer.specs.declared.form.Form.{Form}
 use Rattle.composer.specs.declared.form.plays.Plays.{Plays}
@@ -75,6 +77,7 @@ module _ (seed : ℕ) where
         «outro-bars» = outro-length-is (outroOf (d .closing) (d .«long_outro»));
         «song-bars» = refl;
         most = arranged-bars seed;
+        size = length-pad silent 64 (listTo (songBarOf d (introLength d)) (songLength d)) (omega (arith, length-list-to (songBarOf d (introLength d)) (songLength d), arranged-bars seed));
         found = λ b h. (getD (f .plays) b silent, found-at b h);
         body = body;
         «before-break» = λ whole. strikes-at (λ p. p .drums) (8 * (P / 2) - 1) (omega arith) (bar-before-break d (8 * (P / 2) - 1) whole (omega arith));

@@ -1,13 +1,13 @@
--- The keys' notes: at most 128, bar after bar, with nothing behind them. Assumes nothing.
+-- The keys' notes: at most 128, bar after bar and at most 16 in each, with nothing behind them. Assumes nothing.
 use mathlib.Core.Path.{_≡_, refl}
 use mathlib.Core.List.{List}
 use Prim.Native.Nat.{ℕ, zero, suc, _+_, _*_, _≤_, _<_}
 use native.Mathlib.Omega.{arith}
-use lib.ListN.{length, getD, length-set}
+use lib.ListN.{length, take, getD, length-set}
 use lib.Ieee.{Float}
-use Rattle.laws.specs.Lanes.{Laid}
+use Rattle.laws.specs.Lanes.{EachAtMost, Laid}
 use Rattle.laws.proofs.Bools.{either}
-use Rattle.laws.proofs.Lanes.{Grown, grown-none, grown-push, grown-then, bars-laid}
+use Rattle.laws.proofs.Lanes.{Grown, grown-none, grown-push, grown-then, bars-laid, bars-few}
 use Rattle.streams.specs.Draw.{chanceOf}
 use Rattle.streams.specs.declared.stream.NoiseStream.{NoiseStream}
 use Rattle.composer.specs.Chord.{pastChord}
@@ -79,23 +79,33 @@ module _ (bars : List Chord) (k : KeysStyle) (density beatS : Float) (s : NoiseS
   abbrev laneTo : ℕ → KeysLane
   laneTo b = barsTo (emptyOf s) bars k density beatS b
 
-  bars-count : (b : ℕ) → laneTo b .count ≤ 16 * b
+  bar-few : (b : ℕ) → laneTo (suc b) .count ≤ laneTo b .count + 16
   unfolding barsTo barOf
+  bar-few b = bar-count (getD bars b pastChord) k density b beatS (laneTo b) 8
+
+  bars-count : (b : ℕ) → laneTo b .count ≤ 16 * b
+  unfolding barsTo
   bars-count zero = omega arith
-  bars-count (suc b) = omega (arith, bars-count b, bar-count (getD bars b pastChord) k density b beatS (laneTo b) 8)
+  bars-count (suc b) = omega (arith, bars-count b, bar-few b)
 
   lane-bar : (b : ℕ) → b < 8 → length (laneTo b .notes) ≡ 128 → Adds b (laneTo b) (laneTo (suc b))
   unfolding barsTo barOf
   lane-bar b h size = bar-adds (getD bars b pastChord) k density b beatS (laneTo b) 8 (omega (arith, bars-count b))
 
-  lane-laid : Laid pastNote noNote noteBar 128 7 (laneTo 8 .notes) (laneTo 8 .count)
-  lane-laid = bars-laid pastNote noNote noteBar 128 8 (λ b. laneTo b .notes) (λ b. laneTo b .count) start empty (λ b h. omega (arith, bars-count b)) lane-bar 8 (omega arith)
-    where
-      start : laneTo 0 .notes ≡ emptyOf s .notes
-      start = unfold barsTo in refl
+  start : laneTo 0 .notes ≡ emptyOf s .notes
+  start = unfold barsTo in refl
 
-      empty : laneTo 0 .count ≡ 0
-      empty = unfold barsTo in refl
+  empty : laneTo 0 .count ≡ 0
+  empty = unfold barsTo in refl
+
+  few : (b : ℕ) → b ≤ 8 → laneTo b .count ≤ 128
+  few b h = omega (arith, bars-count b)
+
+  lane-laid : Laid pastNote noNote noteBar 128 7 (laneTo 8 .notes) (laneTo 8 .count)
+  lane-laid = bars-laid pastNote noNote noteBar 128 8 (λ b. laneTo b .notes) (λ b. laneTo b .count) start empty few lane-bar 8 (omega arith)
+
+  lane-few : EachAtMost noteBar 16 (take (laneTo 8 .count) (laneTo 8 .notes))
+  lane-few = bars-few pastNote noNote noteBar 128 8 (λ b. laneTo b .notes) (λ b. laneTo b .count) start empty few lane-bar 16 (λ b h. bar-few b) 8 (omega arith)
 
 -- at most 128 notes, bar after bar, and zero behind them
 pub keys-laid : (s : NoiseStream) (h : Harmony) (style : Style) (beatS : Float) → Laid pastNote noNote noteBar 128 7 (keysOf s h style beatS .notes) (keysOf s h style beatS .count)
@@ -104,3 +114,11 @@ keys-laid s h style beatS =
     let k = keysStyleOf style in
     let d = densityDrawOf (k .density) s in
     lane-laid (h .bars) k (d .value) beatS (d .stream)
+
+-- at most 16 notes in any one bar
+pub keys-few : (s : NoiseStream) (h : Harmony) (style : Style) (beatS : Float) → EachAtMost noteBar 16 (take (keysOf s h style beatS .count) (keysOf s h style beatS .notes))
+unfolding keysOf
+keys-few s h style beatS =
+    let k = keysStyleOf style in
+    let d = densityDrawOf (k .density) s in
+    lane-few (h .bars) k (d .value) beatS (d .stream)

@@ -1,11 +1,11 @@
--- The melody's notes come bar by bar: their bars never fall, and none is past bar 7. Assumes nothing.
+-- The melody's notes come bar by bar: their bars never fall, none is past bar 7, and no bar has more than 7. Assumes nothing.
 use mathlib.Core.Path.{_≡_, refl}
 use mathlib.Core.List.{List}
 use Prim.Native.Nat.{ℕ, zero, suc, _+_, _*_, _≤_, _<_}
 use native.Mathlib.Omega.{arith}
-use lib.ListN.{getD, length, replicate}
-use Rattle.laws.specs.Lanes.{Laid}
-use Rattle.laws.proofs.Lanes.{Grown, grown-none, grown-push, grown-then, bars-laid}
+use lib.ListN.{getD, length, take, replicate}
+use Rattle.laws.specs.Lanes.{EachAtMost, Laid}
+use Rattle.laws.proofs.Lanes.{Grown, grown-none, grown-push, grown-then, bars-laid, bars-few}
 use Rattle.streams.specs.declared.stream.NoiseStream.{NoiseStream}
 use Rattle.composer.specs.Chord.{pastChord}
 use Rattle.composer.specs.Lead.Beats.{pastBeats}
@@ -62,8 +62,21 @@ module _ (s : NoiseStream) (beats : List Beats) (bars : List Chord) (pool : List
   empty : laneTo 0 .count ≡ 0
   empty = unfold barsTo openLineOf in refl
 
+  few : (k : ℕ) → k ≤ 8 → laneTo k .count ≤ 56
+  few k h = omega (arith, good-to k h .1)
+
+  bar-few : (k : ℕ) → k < 8 → laneTo (suc k) .count ≤ laneTo k .count + 7
+  unfolding barsTo
+  bar-few k h =
+      let b = getD beats k pastBeats in
+      omega (arith, bar-count pool (groundOf style (getD bars k pastChord) pool) k b (laneTo k) (b .n), ready .few k h)
+
   -- at most 56 notes, bar after bar
   pub melody-laid : Laid pastLead noLead leadBar 56 7 (melodyOf s beats bars pool style .notes) (melodyOf s beats bars pool style .count)
   unfolding melodyOf
-  melody-laid =
-      bars-laid pastLead noLead leadBar 56 8 (λ k. laneTo k .notes) (λ k. laneTo k .count) start empty (λ k h. omega (arith, good-to k h .1)) lane-bar 8 (omega arith)
+  melody-laid = bars-laid pastLead noLead leadBar 56 8 (λ k. laneTo k .notes) (λ k. laneTo k .count) start empty few lane-bar 8 (omega arith)
+
+  -- at most 7 notes in any one bar
+  pub melody-few : EachAtMost leadBar 7 (take (melodyOf s beats bars pool style .count) (melodyOf s beats bars pool style .notes))
+  unfolding melodyOf
+  melody-few = bars-few pastLead noLead leadBar 56 8 (λ k. laneTo k .notes) (λ k. laneTo k .count) start empty few lane-bar 7 bar-few 8 (omega arith)

@@ -1,11 +1,14 @@
--- The lead over every tonal harmony: at most 56 notes, each in the style's window and in the scale, bar by bar. Assumes nothing.
-use mathlib.Core.Path.{_≡_}
+-- The lead over every tonal harmony: at most 56 notes, each in the style's window and in the scale, bar by bar and at most 7 in each. Assumes nothing.
+use mathlib.Core.Path.{_≡_, ap}
 use mathlib.Core.Bool.{true}
 use Prim.Native.Nat.{ℕ, suc, _%_, _≤_, _<_}
 use native.Mathlib.Omega.{arith}
-use lib.ListN.{getD}
+use lib.Dec.{eqb}
+use lib.ListN.{getD, take}
 use lib.Ieee.{Float}
-use Rattle.laws.specs.Lanes.{Laid}
+use Rattle.laws.specs.Lanes.{EachAtMost, Laid}
+use Rattle.laws.specs.Sorts.{count}
+use Rattle.laws.proofs.Counts.{count-same}
 use Rattle.streams.specs.declared.stream.NoiseStream.{NoiseStream}
 use Rattle.composer.specs.Harmony.{Tonal}
 use Rattle.composer.specs.Note.{noNote, pastNote, noteBar}
@@ -19,7 +22,7 @@ use Rattle.composer.specs.declared.harmony.Harmony.{Harmony}
 use Rattle.composer.specs.declared.style.Style.{Style}
 use Rattle.composer.specs.declared.style.LeadStyle.{LeadStyle}
 use Rattle.composer.specs.declared.lead.melody.Sung.{Sung}
-use Rattle.composer.proofs.lead.BarsLaws.{leadBar, melody-laid}
+use Rattle.composer.proofs.lead.BarsLaws.{leadBar, melody-laid, melody-few}
 use Rattle.composer.proofs.lead.FitLaws.{fits-what}
 use Rattle.composer.proofs.lead.GroundLaws.{ready}
 use Rattle.composer.proofs.lead.MelodyLaws.{melody-good}
@@ -40,6 +43,10 @@ module _ (s : NoiseStream) (h : Harmony) (tonal : Tonal h) (style : Style) where
   sung-laid : Laid pastLead noLead leadBar 56 7 (sungOf s h style .notes) (sungOf s h style .count)
   unfolding sungOf
   sung-laid = melody-laid (rhythmOf s l .stream) (rhythmOf s l .bars) (h .bars) (poolOf (h .scale)) l song-ready
+
+  sung-few : EachAtMost leadBar 7 (take (sungOf s h style .count) (sungOf s h style .notes))
+  unfolding sungOf
+  sung-few = melody-few (rhythmOf s l .stream) (rhythmOf s l .bars) (h .bars) (poolOf (h .scale)) l song-ready
 
   module _ (beatS : Float) where
     abbrev m : Sung
@@ -74,3 +81,14 @@ module _ (s : NoiseStream) (h : Harmony) (tonal : Tonal h) (style : Style) where
       };
       rest = λ i a b. played-rest m beatS (l .dur) i (omega (arith, same-count)) b;
     }
+
+    same-in-bar : (v : ℕ) → count (λ x. eqb (noteBar x) v) (take (leadOf s h style beatS .count) (leadOf s h style beatS .notes)) ≡ count (λ x. eqb (leadBar x) v) (take (leadOf s h style beatS .count) (m .notes))
+    same-in-bar v =
+        count-same (λ x. eqb (noteBar x) v) (λ x. eqb (leadBar x) v) pastNote pastLead (leadOf s h style beatS .notes) (m .notes) (leadOf s h style beatS .count)
+        (omega (arith, lead-laid .few, lead-laid .size))
+        (omega (arith, lead-laid .few, sung-laid .size))
+        (λ i a. ap (λ (b : ℕ). eqb b v) (keeps i a .0))
+
+    -- at most 7 notes in any one bar
+    pub lead-few : EachAtMost noteBar 7 (take (leadOf s h style beatS .count) (leadOf s h style beatS .notes))
+    lead-few v = rw (same-in-bar v, same-count) (sung-few v)

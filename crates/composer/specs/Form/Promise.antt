@@ -4,6 +4,7 @@ use mathlib.Core.Path.{_≡_}
 use mathlib.Core.Bool.{Bool, true, false, _&&_}
 use mathlib.Core.Logic.{_⊎_}
 use Prim.Native.Nat.{ℕ, _+_, _-_, _*_, _/_, _≤_, _<_}
+use lib.ListN.{length}
 use Rattle.laws.specs.Runs.{Among, RunsAtMost, lacking}
 use Rattle.streams.specs.Stage.{streamOf}
 use Rattle.streams.specs.declared.stage.Stage.{Stage}
@@ -50,6 +51,7 @@ pub record FormPromise (seed : ℕ) (f : Form) : Type 0 where
   pub «outro-bars» : (outroBarsOf f ≡ 0) ⊎ ((outroBarsOf f ≡ 2) ⊎ ((outroBarsOf f ≡ 4) ⊎ (outroBarsOf f ≡ 8)))
   pub «song-bars» : f .bars ≡ introBarsOf f + 8 * f .phrases + outroBarsOf f
   pub most : f .bars ≤ 64
+  pub size : length (f .plays) ≡ 64
   -- no bar of the song is refused
   pub found : (b : ℕ) → b < f .bars → (p : Plays) × (playsAt f b ≡ Gives p)
   pub body : BodyPromise (f .phrases) (bodyStrikes f (λ p. p .pad)) (bodyStrikes f (λ p. p .drums)) (bodyStrikes f (λ p. p .bass))

@@ -1,11 +1,13 @@
 -- After i turns the word has the first i bars, and there is room for one more. Assumes nothing.
 use mathlib.Core.Path.{_≡_, refl, ap, _∙_}
-use Prim.Native.Nat.{_≤_, _-_}
+use Prim.Native.Nat.{_+_, _-_, _≤_, _<_}
 use native.Mathlib.Numerals.{add-one}
 use native.Mathlib.Omega.{arith}
+use lib.ListN.{getD}
+use Rattle.composer.specs.Form.Plays.{silent}
 use borrow.Author.Needs.{needs}
 use Rattle.probe.specs.Forms.{barsWordOf}
-use Rattle.probe.proofs.FormsLaws.{bars-word-room}
+use Rattle.probe.proofs.FormsLaws.{bits-lt, bars-word-room}
 use Rattle.probe.proofs.forms.bars_word.Statement.{statement}
 use Rattle.probe.proofs.forms.bars_word.Tie as tie
 
@@ -37,10 +39,14 @@ mul-w c =
 bits-requires : tie.Need-bits-requires Inv-loop μ-loop
 bits-requires c κs = search needs
 
+cast-w : tie.Need-cast-w Inv-loop μ-loop
+cast-w c = search needs
+
 add-w : tie.Need-add-w Inv-loop μ-loop
 add-w c =
     let l = c .before .before .before in
     let a = l .before .args in
+    let small : c .bits .result < 16 = rw (c .bits .ensures) (bits-lt (getD (a .t1) (a .from + l .loop .i) silent)) in
     omega (arith, bars-word-room (a .t1) (a .from) (l .loop .i) (omega arith))
 
 add-i : tie.Need-add-i Inv-loop μ-loop
@@ -53,7 +59,7 @@ loop-again : tie.Need-loop-again Inv-loop μ-loop
 unfolding barsWordOf
 loop-again c =
     let l = c .before .before .before .loop in
-    (omega arith, rw (add-one, ← l .inv .1, ← c .bits .ensures .0))
+    (omega arith, rw (add-one, ← l .inv .1, ← c .bits .ensures))
 
 returns : tie.Need-returns Inv-loop μ-loop
 returns c =
@@ -74,6 +80,7 @@ bars-word-spec =
     array-copy-out-p
     mul-w
     bits-requires
+    cast-w
     add-w
     add-i
     loop-less

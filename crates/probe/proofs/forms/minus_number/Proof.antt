@@ -1,25 +1,21 @@
--- Each arm has its case's number. Assumes nothing.
+-- A byte is small, so minus it fits. Assumes nothing.
+use native.Mathlib.Omega.{arith}
+use Rattle.laws.proofs.Signed.{minus-fits, minus-reads}
 use borrow.Author.Needs.{needs}
 use Rattle.probe.proofs.forms.minus_number.Statement.{statement}
 use Rattle.probe.proofs.forms.minus_number.Tie as tie
 
-enum-told : tie.Need-enum-told
-enum-told c = search needs
+number-requires : tie.Need-number-requires
+number-requires c κs = search needs
 
-enum-told-2 : tie.Need-enum-told-2
-enum-told-2 c = search needs
+cast-result : tie.Need-cast-result
+cast-result c = search needs
 
-enum-told-3 : tie.Need-enum-told-3
-enum-told-3 c = search needs
+sub-result : tie.Need-sub-result
+sub-result c = minus-fits (c .number .result) (omega (arith, c .number .ok))
 
 returns : tie.Need-returns
-returns c = rw (c .enum-told .given .1)
-
-returns-2 : tie.Need-returns-2
-returns-2 c = rw (c .enum-told2 .given .1)
-
-returns-3 : tie.Need-returns-3
-returns-3 c = rw (c .enum-told3 .given .1)
+returns c = rw (← c .number .ensures) (minus-reads (c .number .result) (omega (arith, c .number .ok)))
 
 pub minus-number-spec : {M : Type 1} → statement M
-minus-number-spec = tie.close (tie.spec enum-told enum-told-2 enum-told-3 returns returns-2 returns-3)
+minus-number-spec = tie.close (tie.spec number-requires cast-result sub-result returns)

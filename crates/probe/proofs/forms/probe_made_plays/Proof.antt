@@ -1,9 +1,10 @@
 -- The number is that of the answer about the form made. Assumes nothing.
 use mathlib.Core.Path.{ap, _∙_}
+use mir.Syntax.{w64}
+use mir.ValLaws.{toZ-ofZ}
 use Rattle.composer.specs.Form.Ask.{playsOf}
 use Rattle.composer.specs.declared.form.Form.{Form}
 use Rattle.probe.specs.Forms.{playsNumberOf}
-use Rattle.probe.proofs.FormsLaws.{reads-back}
 use borrow.Author.Needs.{needs}
 use Rattle.probe.proofs.forms.probe_made_plays.Statement.{statement}
 use Rattle.probe.proofs.forms.probe_made_plays.Tie as tie
@@ -22,7 +23,7 @@ returns c =
     let p = c .before in
     let bar = p .before .before .args .bar in
     let e = p .plays .ensures ∙ ap (λ (f : Form). playsOf f bar) (p .before .made .ensures) in
-    rw (c .plays-number .ensures) (reads-back (p .plays .result) ∙ ap playsNumberOf e)
+    toZ-ofZ w64 (c .plays-number .result) (record { sfits = c .plays-number .ok }) ∙ c .plays-number .ensures ∙ ap playsNumberOf e
 
 pub probe-made-plays-spec : {M : Type 1} → statement M
 probe-made-plays-spec =
