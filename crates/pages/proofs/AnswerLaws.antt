@@ -1,0 +1,60 @@
+-- A call that has bytes to write answers refusal 2 and writes nothing where the buffer is shorter, and else writes them, whatever
+-- the buffer held; what stood beyond them stays. Assumes nothing.
+use mathlib.Core.Path.{_≡_, refl, sym, _∙_}
+use mathlib.Core.Bool.{Bool, true, false, cond}
+use mathlib.Core.List.{List, _++_}
+use Prim.Native.Nat.{ℕ, _+_, _≤_, _<_}
+use native.Mathlib.Nat.{zero-add}
+use native.Mathlib.Omega.{arith}
+use borrow.Author.Tests.{lt-ltb, le-ltb}
+use lib.Dec.{ltb}
+use lib.ListN.{length, take, drop}
+use lib.Seq.{take-append-seam, drop-append-seam}
+use Rattle.laws.specs.Lists.{splice}
+use Rattle.laws.specs.Writes.{Wrote}
+use Rattle.composer.specs.declared.refusal.Outcome.{Outcome}
+use Rattle.composer.specs.declared.refusal.Refusal.{Refusal}
+use Rattle.pages.specs.Answer.{Asked, Writes, Declines, bytesOf, askedBy, writtenOf, bufferOf}
+use Rattle.pages.specs.declared.answer.Written.{Written}
+
+pub refused : (b bytes : List ℕ) → length b < length bytes → (Written.Refused Refusal.ShortBuffer ≡ writtenOf (length b) (Writes bytes)) × (b ≡ bufferOf b (Writes bytes))
+refused b bytes h =
+    let e = lt-ltb (length b) (length bytes) h in
+    (rw e, rw e)
+
+pub served : {b b′ bytes : List ℕ} {r n : ℕ} → Wrote b b′ 0 r n bytes → (Written.Bytes r ≡ writtenOf (length b) (Writes bytes)) × (b′ ≡ bufferOf b (Writes bytes))
+unfolding splice
+served {b} {b′} {bytes} {r} {n} w =
+    let e = le-ltb (length b) (length bytes) (omega (arith, w .size, w .fits)) in
+    let k : r ≡ length bytes = omega (arith, w .next, w .size) in
+    (rw (e, k), rw (e, w .bytes, zero-add (length bytes)))
+
+-- ---- for readers
+-- a buffer long enough gets the bytes
+pub room-written : (bytes b : List ℕ) → length bytes ≤ length b → writtenOf (length b) (Writes bytes) ≡ Written.Bytes (length bytes)
+room-written bytes b h = rw (le-ltb (length b) (length bytes) h)
+
+pub room-buffer : (bytes b : List ℕ) → length bytes ≤ length b → bufferOf b (Writes bytes) ≡ bytes ++ drop (length bytes) b
+room-buffer bytes b h = rw (le-ltb (length b) (length bytes) h)
+
+room-bytes : (bytes b : List ℕ) → length bytes ≤ length b → take (length bytes) (bufferOf b (Writes bytes)) ≡ bytes
+room-bytes bytes b h = rw (room-buffer bytes b h) (take-append-seam bytes (drop (length bytes) b))
+
+-- whatever the buffers held
+pub same-bytes : (a : Asked) (b b′ : List ℕ) → length (bytesOf a) ≤ length b → length (bytesOf a) ≤ length b′ → take (length (bytesOf a)) (bufferOf b a) ≡ take (length (bytesOf a)) (bufferOf b′ a)
+same-bytes (Writes bytes) b b′ h k = room-bytes bytes b h ∙ sym (room-bytes bytes b′ k)
+same-bytes (Declines r) b b′ h k = refl
+
+-- bytes beyond keep their values, in a buffer of any length
+pub beyond : (a : Asked) (b : List ℕ) → drop (length (bytesOf a)) (bufferOf b a) ≡ drop (length (bytesOf a)) b
+beyond (Writes bytes) b = go (ltb (length b) (length bytes))
+  where
+    go : (short : Bool) → drop (length bytes) (cond short b (bytes ++ drop (length bytes) b)) ≡ drop (length bytes) b
+    go true = refl
+    go false = drop-append-seam bytes (drop (length bytes) b)
+beyond (Declines r) b = refl
+
+-- a refusal writes nothing
+pub asked-most : (o : Outcome) (a : Asked) (m : ℕ) → length (bytesOf a) ≤ m → length (bytesOf (askedBy o a)) ≤ m
+asked-most Outcome.Done a m h = h
+asked-most (Outcome.Refused r) a m h = omega arith

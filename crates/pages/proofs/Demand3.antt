@@ -1,0 +1,122 @@
+-- Demand 3 holds of every style and seed: a page is read back into its loop bar's own chord and events, those are what the
+-- composer promises, and as each loop bar has hits and bass, the pages have what the form's bars play. Assumes nothing.
+use mathlib.Core.Path.{_≡_, ap, subst}
+use mathlib.Core.Bool.{Bool, true}
+use mathlib.Core.List.{List, [], _++_}
+use Prim.Native.Nat.{ℕ, _+_, _*_, _≤_, _<_}
+use native.Mathlib.Omega.{arith}
+use borrow.Author.Tests.{lt-ltb}
+use lib.ListN.{length, getD, drop}
+use Rattle.laws.specs.Lists.{joined}
+use Rattle.composer.specs.Compose.{composedOf}
+use Rattle.composer.specs.Form.{introBarsOf}
+use Rattle.composer.specs.Form.Promise.{BodyPromise, playsAt, strikes, bodyStrikes, FormPromise}
+use Rattle.composer.specs.Form.Song.{arrangeOf}
+use Rattle.composer.specs.Harmony.{notesOf}
+use Rattle.composer.specs.Promise.{ScorePromise}
+use Rattle.composer.specs.Refusal.{Answer, Gives}
+use Rattle.composer.specs.Style.{styleNumberOf}
+use Rattle.composer.specs.declared.form.Form.{Form}
+use Rattle.composer.specs.declared.form.plays.Plays.{Plays}
+use Rattle.composer.specs.declared.harmony.Scale.{Scale}
+use Rattle.composer.specs.declared.score.Score.{Score}
+use Rattle.composer.specs.declared.style.Style.{Style}
+use Rattle.composer.proofs.ComposeLaws.{song-promise}
+use Rattle.composer.proofs.form.Arranged.{arranged-promise}
+use Rattle.composer.proofs.form.PromiseLaws.{promise-more}
+use Rattle.pages.specs.Answer.{Writes, bytesOf, writtenOf, bufferOf}
+use Rattle.pages.specs.Demand3.{bodyOf, has, IsNote, LeadNote, BassNote, pageAt, bodyPage, Demand3}
+use Rattle.pages.specs.Lane.{eventsOf, drawnFor}
+use Rattle.pages.specs.Page.{loopBarOf, shown, pageBytes, pageAsked}
+use Rattle.pages.specs.declared.answer.Written.{Written}
+use Rattle.pages.specs.declared.lane.Lane.{Lane}
+use Rattle.pages.proofs.AnswerLaws.{room-written, room-buffer}
+use Rattle.pages.proofs.PageLaws.{composed-is, page-found}
+use Rattle.pages.proofs.ReadLaws.{chord-body, lead-body, hits-body, bass-body}
+use Rattle.pages.proofs.ScoreLaws.{chord-some, hits-some, bass-some, lead-shown, bass-shown}
+
+strikes-by : (layer : Plays → Bool) (a : Answer Plays) (p : Plays) → a ≡ Gives p → strikes layer a ≡ true → layer p ≡ true
+strikes-by layer a p e h = rw e at h
+
+-- ---- the page of a song bar
+module _ (style : Style) (seed b : ℕ) (p : Plays) (plays : playsAt (arrangeOf seed) b ≡ Gives p) where
+  abbrev s : Score
+  s = composedOf style seed .score
+
+  abbrev scale : Scale
+  scale = composedOf style seed .scale
+
+  abbrev bar : ℕ
+  bar = loopBarOf (arrangeOf seed) b
+
+  abbrev page : List ℕ
+  page = pageAt style seed b
+
+  promise : ScorePromise style s scale
+  promise = song-promise style seed .score
+
+  bar-lt : bar < 8
+  bar-lt = omega arith
+
+  page-asked : pageAsked (styleNumberOf style) seed b ≡ Writes (pageBytes s p bar)
+  page-asked = page-found style seed b p plays
+
+  page-is : page ≡ pageBytes s p bar
+  page-is = ap bytesOf page-asked
+
+  -- a buffer long enough
+  page-written : (buf : List ℕ) → length page ≤ length buf
+      → (writtenOf (length buf) (pageAsked (styleNumberOf style) seed b) ≡ Written.Bytes (length page)) × (bufferOf buf (pageAsked (styleNumberOf style) seed b) ≡ page ++ drop (length page) buf)
+  page-written buf h =
+      let room : length (pageBytes s p bar) ≤ length buf = rw page-is at h in
+      rw page-asked (room-written (pageBytes s p bar) buf room, room-buffer (pageBytes s p bar) buf room)
+
+  -- what the bar plays, its page has
+  chord-has : p .pad ≡ true → has 0x03 page ≡ true
+  chord-has e = rw (page-is, chord-body s p bar, e) (lt-ltb 0 (length (getD (notesOf (s .«bar_chords»)) bar [])) (chord-some style s scale promise bar bar-lt))
+
+  hits-has : p .drums ≡ true → has 0x07 page ≡ true
+  hits-has e = rw (page-is, hits-body s p bar, e) (lt-ltb 0 (length (joined (drawnFor bar (eventsOf s Lane.Hits)))) (hits-some style s scale promise bar bar-lt))
+
+  bass-has : p .bass ≡ true → has 0x08 page ≡ true
+  bass-has e = rw (page-is, bass-body s p bar, e) (lt-ltb 0 (length (joined (drawnFor bar (eventsOf s Lane.Bass)))) (bass-some style s scale promise bar bar-lt))
+
+  -- its notes
+  lead-sings : (midi : ℕ) → IsNote 0x05 page midi → LeadNote style scale midi
+  lead-sings midi n =
+      let body : bodyOf 0x05 page ≡ joined (shown (p .keys) (drawnFor bar (eventsOf s Lane.Lead))) = rw page-is (lead-body s p bar) in
+      subst (LeadNote style scale) (n .2) (rw body (lead-shown style s scale promise bar bar-lt (p .keys) (n .0) (rw body at (n .1))))
+
+  bass-sounds : (midi : ℕ) → IsNote 0x08 page midi → BassNote (notesOf (s .«bar_chords»)) bar midi
+  bass-sounds midi n =
+      let body : bodyOf 0x08 page ≡ joined (shown (p .bass) (drawnFor bar (eventsOf s Lane.Bass))) = rw page-is (bass-body s p bar) in
+      subst (BassNote (notesOf (s .«bar_chords»)) bar) (n .2) (rw body (bass-shown style s scale promise bar bar-lt (p .bass) (n .0) (rw body at (n .1))))
+
+-- ---- all pages of a song
+module _ (style : Style) (seed : ℕ) where
+  abbrev f : Form
+  f = arrangeOf seed
+
+  form : FormPromise seed f
+  form = arranged-promise seed
+
+  -- a page of the body has what its bar plays
+  also : (layer : Plays → Bool) (tag : ℕ) → ((b : ℕ) (p : Plays) → playsAt f b ≡ Gives p → layer p ≡ true → has tag (pageAt style seed b) ≡ true)
+      → (b : ℕ) → b < 8 * f .phrases → bodyStrikes f layer b ≡ true → has tag (bodyPage style seed b) ≡ true
+  also layer tag has-it b h e =
+      let k = form .found (introBarsOf f + b) (omega (arith, form .«song-bars»)) in
+      has-it (introBarsOf f + b) (k .0) (k .1) (strikes-by layer (playsAt f (introBarsOf f + b)) (k .0) (k .1) e)
+
+  body : BodyPromise (f .phrases) (λ b. has 0x03 (bodyPage style seed b)) (λ b. has 0x07 (bodyPage style seed b)) (λ b. has 0x08 (bodyPage style seed b))
+  body =
+      promise-more (f .phrases) (bodyStrikes f (λ p. p .pad)) (bodyStrikes f (λ p. p .drums)) (bodyStrikes f (λ p. p .bass)) (λ b. has 0x03 (bodyPage style seed b)) (λ b. has 0x07 (bodyPage style seed b))
+      (λ b. has 0x08 (bodyPage style seed b)) (also (λ p. p .pad) 0x03 (chord-has style seed)) (also (λ p. p .drums) 0x07 (hits-has style seed)) (also (λ p. p .bass) 0x08 (bass-has style seed)) (form .body)
+
+  pub demand-3 : Demand3 style seed
+  demand-3 = record {
+    written = λ b h. let k = form .found b h in page-written style seed b (k .0) (k .1);
+    body = body;
+    entries = rw (composed-is style seed) (song-promise style seed .score .scale-least, song-promise style seed .score .scale-most);
+    lead = rw (composed-is style seed) (λ b h. let k = form .found b h in lead-sings style seed b (k .0) (k .1));
+    bass = rw (composed-is style seed) (λ b h. let k = form .found b h in bass-sounds style seed b (k .0) (k .1));
+  }

@@ -1,0 +1,130 @@
+-- How long a page is, and that it has at most 653 bytes, since no bar of a lane has more events than its stage can draw. Assumes nothing.
+use mathlib.Core.Path.{_≡_, refl, ap, _∙_}
+use mathlib.Core.Bool.{Bool, true, false}
+use mathlib.Core.List.{List, [], _++_}
+use Prim.Native.Nat.{ℕ, zero, suc, _+_, _≤_, _<_}
+use native.Mathlib.Omega.{arith}
+use lib.ListN.{length, getD, take, length-append, List·getD-map}
+use Rattle.laws.specs.Lists.{joined}
+use Rattle.composer.specs.Chord.{pastChord}
+use Rattle.composer.specs.Compose.{composedOf, composeOf}
+use Rattle.composer.specs.Form.Ask.{playsOf, playsAnswered}
+use Rattle.composer.specs.Form.Promise.{playsAt}
+use Rattle.composer.specs.Form.Song.{arrangeOf}
+use Rattle.composer.specs.Harmony.{notesIn, notesOf}
+use Rattle.composer.specs.Note.{noteBar, hitBar}
+use Rattle.composer.specs.Promise.{LanesPromise, BarsPromise}
+use Rattle.composer.specs.Refusal.{Gives}
+use Rattle.composer.specs.Style.{styleNumberOf}
+use Rattle.composer.specs.declared.form.ask.PlaysAnswer.{PlaysAnswer}
+use Rattle.composer.specs.declared.form.plays.Plays.{Plays}
+use Rattle.composer.specs.declared.refusal.Refusal.{Refusal}
+use Rattle.composer.specs.declared.score.Score.{Score}
+use Rattle.composer.specs.declared.style.Style.{Style}
+use Rattle.composer.proofs.ComposeLaws.{song-promise}
+use Rattle.composer.proofs.form.AskLaws.{plays-past}
+use Rattle.composer.proofs.form.SongLaws.{arranged-sound}
+use Rattle.pages.specs.Answer.{Writes, Declines, bytesOf}
+use Rattle.pages.specs.Bytes.{field}
+use Rattle.pages.specs.Lane.{noteBytes, hitBytes, eventsOf, drawnFor}
+use Rattle.pages.specs.Page.{Chorded, loopBarOf, shown, chordField, barField, pageBytes, chordSize, barSize, pageSize, pageBy, pageOf, pageAsked}
+use Rattle.pages.specs.declared.lane.Lane.{Lane}
+use Rattle.pages.proofs.AnswerLaws.{asked-most}
+use Rattle.pages.proofs.BytesLaws.{length-field}
+use Rattle.pages.proofs.LaneLaws.{note-bar, hit-bar, run-within, run-length, run-small, drawn-count, shown-size}
+
+-- a bar's chord has four notes
+pub chord-notes : (s : Score) → Chorded s → (bar : ℕ) → bar < 8 → length (getD (notesOf (s .«bar_chords»)) bar []) ≡ 4
+chord-notes s p bar h = ap length (List·getD-map notesIn (s .«bar_chords») bar pastChord ∙ p bar h .notes)
+
+chord-length : (s : Score) → Chorded s → (on : Bool) (bar : ℕ) → bar < 8 → length (chordField s on bar) ≡ 3 + chordSize on
+chord-length s p true bar h = omega (arith, length-field 0x03 (getD (notesOf (s .«bar_chords»)) bar []), chord-notes s p bar h)
+chord-length s p false bar h = length-field 0x03 []
+
+module _ (s : Score) (lane : Lane) where
+  bar-length : (on : Bool) (bar tag : ℕ) → length (field tag (joined (shown on (drawnFor bar (eventsOf s lane))))) ≡ 3 + barSize s lane on bar
+  bar-length on bar tag = length-field tag (joined (shown on (drawnFor bar (eventsOf s lane)))) ∙ ap (λ (n : ℕ). 3 + n) (shown-size s lane on bar)
+
+  -- a bar's events are few bytes
+  pub bar-small : LanesPromise s → (on : Bool) (bar : ℕ) → barSize s lane on bar < 65536
+  bar-small p on bar = run-small s p lane (length (shown on (drawnFor bar (eventsOf s lane)))) (omega (arith, run-within s p lane on bar, run-length s p lane on bar))
+
+-- the length of a page, by the counts of its events
+pub page-length : (s : Score) → Chorded s → (p : Plays) (bar : ℕ) → bar < 8 → length (pageBytes s p bar) ≡ pageSize s p bar
+unfolding pageBytes
+page-length s q p bar h =
+    let bass = barField s Lane.Bass (p .bass) bar in
+    let hits = barField s Lane.Hits (p .drums) bar in
+    let keys = barField s Lane.Keys (p .keys) bar in
+    let lead = barField s Lane.Lead (p .keys) bar in
+    omega (
+      arith,
+      length-append (chordField s (p .pad) bar) (lead ++ (keys ++ (hits ++ bass))),
+      length-append lead (keys ++ (hits ++ bass)),
+      length-append keys (hits ++ bass),
+      length-append hits bass,
+      chord-length s q (p .pad) bar h,
+      bar-length s Lane.Lead (p .keys) bar 5,
+      bar-length s Lane.Keys (p .keys) bar 6,
+      bar-length s Lane.Hits (p .drums) bar 7,
+      bar-length s Lane.Bass (p .bass) bar 8,
+    )
+
+-- ---- at most
+shown-most : {A : Type 0} (on : Bool) (xs : List A) (m : ℕ) → length xs ≤ m → length (shown on xs) ≤ m
+shown-most true xs m h = h
+shown-most false xs m h = omega arith
+
+chord-most : (on : Bool) → chordSize on ≤ 4
+chord-most true = omega arith
+chord-most false = omega arith
+
+bars-most : (s : Score) (p : Plays) (bar : ℕ) → BarsPromise s → pageSize s p bar ≤ 653
+bars-most s p bar each =
+    omega (
+      arith,
+      chord-most (p .pad),
+      shown-most (p .keys) (drawnFor bar (eventsOf s Lane.Lead)) 7 (omega (arith, drawn-count noteBar noteBytes note-bar (take (s .«lead_count») (s .lead)) bar, each .lead bar)),
+      shown-most (p .keys) (drawnFor bar (eventsOf s Lane.Keys)) 16 (omega (arith, drawn-count noteBar noteBytes note-bar (take (s .«keys_count») (s .keys)) bar, each .keys bar)),
+      shown-most (p .drums) (drawnFor bar (eventsOf s Lane.Hits)) 13 (omega (arith, drawn-count hitBar hitBytes hit-bar (take (s .«hit_count») (s .hits)) bar, each .hits bar)),
+      shown-most (p .bass) (drawnFor bar (eventsOf s Lane.Bass)) 13 (omega (arith, drawn-count noteBar noteBytes note-bar (take (s .«bass_count») (s .bass)) bar, each .bass bar)),
+    )
+
+-- ---- of every style's number, seed and bar; a refusal writes nothing
+by-most : (a : PlaysAnswer) (s : Score) (bar m : ℕ) → ((p : Plays) → length (pageBytes s p bar) ≤ m) → length (bytesOf (pageBy a s bar)) ≤ m
+by-most (PlaysAnswer.Found p) s bar m h = h p
+by-most (PlaysAnswer.Refused r) s bar m h = omega arith
+
+song-most : (style : Style) (seed b : ℕ) → length (bytesOf (pageOf (composedOf style seed .score) (arrangeOf seed) b)) ≤ 653
+song-most style seed b =
+    let s = composedOf style seed .score in
+    let bar = loopBarOf (arrangeOf seed) b in
+    let song = song-promise style seed .score in
+    by-most (playsOf (arrangeOf seed) b) s bar 653 (λ p. omega (arith, page-length s (song .chords) p bar (omega arith), bars-most s p bar (song .bars)))
+
+pub page-most : (style seed b : ℕ) → length (bytesOf (pageAsked style seed b)) ≤ 653
+unfolding pageAsked
+page-most zero seed b = asked-most (composedOf Style.Hiphop seed .outcome) (pageOf (composedOf Style.Hiphop seed .score) (arrangeOf seed) b) 653 (song-most Style.Hiphop seed b)
+page-most (suc zero) seed b = asked-most (composedOf Style.Sleep seed .outcome) (pageOf (composedOf Style.Sleep seed .score) (arrangeOf seed) b) 653 (song-most Style.Sleep seed b)
+page-most (suc (suc n)) seed b = omega arith
+
+-- ---- which bars have a page
+-- a style's number is the style's
+pub composed-is : (style : Style) (seed : ℕ) → composeOf (styleNumberOf style) seed ≡ composedOf style seed
+composed-is Style.Hiphop seed = refl
+composed-is Style.Sleep seed = refl
+
+found-is : (a : PlaysAnswer) (p : Plays) → playsAnswered a ≡ Gives p → a ≡ PlaysAnswer.Found p
+found-is (PlaysAnswer.Found q) p e = cc
+found-is (PlaysAnswer.Refused r) p e = cc
+
+module _ (style : Style) (seed b : ℕ) where
+  -- a bar below the song's count
+  pub page-found : (p : Plays) → playsAt (arrangeOf seed) b ≡ Gives p → pageAsked (styleNumberOf style) seed b ≡ Writes (pageBytes (composedOf style seed .score) p (loopBarOf (arrangeOf seed) b))
+  unfolding pageAsked
+  page-found p plays = rw (composed-is style seed, song-promise style seed .done, found-is (playsOf (arrangeOf seed) b) p plays)
+
+  -- any other is refused with 3
+  pub page-past : arrangeOf seed .bars ≤ b → pageAsked (styleNumberOf style) seed b ≡ Declines Refusal.NoSuchBar
+  unfolding pageAsked
+  page-past h = rw (composed-is style seed, song-promise style seed .done, plays-past (arrangeOf seed) (arranged-sound seed) b h)

@@ -1,0 +1,28 @@
+-- Its higher half, then its lower. Assumes nothing.
+use Rattle.laws.proofs.Writes.{wrote-then}
+use borrow.Author.Needs.{needs}
+use Rattle.pages.proofs.put.put_u32.Statement.{statement}
+use Rattle.pages.proofs.put.put_u32.Tie as tie
+
+cast-put-u16 : tie.Need-cast-put-u16
+cast-put-u16 c = search needs
+
+put-u16-requires : tie.Need-put-u16-requires
+put-u16-requires c κs = search needs
+
+cast-put-u16-2 : tie.Need-cast-put-u16-2
+cast-put-u16-2 c = search needs
+
+put-u16-requires-2 : tie.Need-put-u16-requires-2
+put-u16-requires-2 c κs = search needs
+
+same-length : tie.Need-same-length
+same-length c = search needs
+
+returns : tie.Need-returns
+returns c = wrote-then (c .before .before .before .before .before .before .put-u16 .ensures) (c .before .before .put-u162 .ensures)
+
+pub put-u32-spec : {M : Type 1} → statement M
+put-u32-spec =
+    tie.close
+    (tie.spec cast-put-u16 put-u16-requires cast-put-u16-2 put-u16-requires-2 same-length returns)

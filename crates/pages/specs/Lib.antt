@@ -1,0 +1,6 @@
+pub mod Answer
+pub mod Bytes
+pub mod Demand3
+pub mod Lane
+pub mod Page
+pub mod Sheet

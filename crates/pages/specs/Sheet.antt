@@ -1,0 +1,82 @@
+-- The sheet: a whole song in ten fields. Definitions only.
+use mathlib.Core.Bool.{cond}
+use mathlib.Core.List.{List, [], _∷_, _++_, map}
+use Prim.Native.Nat.{ℕ, _+_, _*_}
+use lib.ListN.{take}
+use Rattle.laws.specs.Lists.{joined}
+use Rattle.composer.specs.Compose.{composeOf}
+use Rattle.composer.specs.Form.{introBarsOf, outroBarsOf}
+use Rattle.composer.specs.Form.Ends.{endCodeOf, outroCodeOf}
+use Rattle.composer.specs.Form.Plays.{bitsOf}
+use Rattle.composer.specs.Form.Song.{arrangeOf}
+use Rattle.composer.specs.Harmony.{notesOf}
+use Rattle.composer.specs.Lead.Scale.{poolOf}
+use Rattle.composer.specs.Style.{styleNumberOf}
+use Rattle.composer.specs.Voice.{voiceNumberOf}
+use Rattle.composer.specs.declared.form.Form.{Form}
+use Rattle.composer.specs.declared.harmony.Scale.{Scale}
+use Rattle.composer.specs.declared.score.Score.{Score}
+use Rattle.pages.specs.Answer.{Asked, Writes, askedBy}
+use Rattle.pages.specs.Bytes.{be64, f32Bytes, field}
+use Rattle.pages.specs.Lane.{tagOf, eventsOf}
+use Rattle.pages.specs.declared.lane.Lane.{Lane}
+
+-- ---- before the events
+-- style, seed, lead voice
+abbrev pub nameField : ℕ → Score → List ℕ
+nameField seed s = field 0x01 (styleNumberOf (s .style) ∷ (be64 seed ++ (voiceNumberOf (s .«lead_voice») ∷ [])))
+
+-- tempo in beats per minute
+abbrev pub tempoField : Score → List ℕ
+tempoField s = field 0x02 (f32Bytes (s .bpm))
+
+-- eight chords of four notes
+abbrev pub chordsField : Score → List ℕ
+chordsField s = field 0x03 (joined (notesOf (s .«bar_chords»)))
+
+-- melody scale, 5 or 6 pitch classes
+abbrev pub scaleField : Scale → List ℕ
+scaleField scale = field 0x04 (poolOf scale)
+
+unfoldable pub songBytes : ℕ → Score → Scale → List ℕ
+songBytes seed s scale = nameField seed s ++ (tempoField s ++ (chordsField s ++ scaleField scale))
+
+-- ---- the events: 0x05 lead, 0x06 keys, 0x07 hits, 0x08 bass
+abbrev pub laneField : Score → Lane → List ℕ
+laneField s lane = field (tagOf lane) (joined (eventsOf s lane))
+
+unfoldable pub lanesBytes : Score → List ℕ
+lanesBytes s = laneField s Lane.Lead ++ (laneField s Lane.Keys ++ (laneField s Lane.Hits ++ laneField s Lane.Bass))
+
+-- ---- the form
+-- intro ending and bars, phrases, outro ending and bars, dip
+abbrev pub endsField : Form → List ℕ
+endsField f =
+    field 0x09 (endCodeOf (f .intro) ∷ introBarsOf f ∷ f .phrases ∷ outroCodeOf (f .outro) ∷ outroBarsOf f ∷ cond (f .dip) 1 0 ∷ [])
+
+-- one byte per bar
+abbrev pub playsBytes : Form → List ℕ
+playsBytes f = map bitsOf (take (f .bars) (f .plays))
+
+abbrev pub playsField : Form → List ℕ
+playsField f = field 0x0a (playsBytes f)
+
+unfoldable pub formBytes : Form → List ℕ
+formBytes f = endsField f ++ playsField f
+
+-- ---- the whole
+unfoldable pub sheetBytes : ℕ → Score → Scale → Form → List ℕ
+sheetBytes seed s scale f = songBytes seed s scale ++ (lanesBytes s ++ formBytes f)
+
+-- its length by the counts
+abbrev pub sheetSize : Score → Scale → Form → ℕ
+sheetSize s scale f = 82 + scale .n + 14 * (s .«lead_count» + s .«keys_count» + s .«bass_count») + 10 * s .«hit_count» + f .bars
+
+abbrev pub lanesSize : Score → ℕ
+lanesSize s = 12 + 14 * (s .«lead_count» + s .«keys_count» + s .«bass_count») + 10 * s .«hit_count»
+
+-- what a sheet of a style and a seed has to write
+unfoldable pub sheetAsked : ℕ → ℕ → Asked
+sheetAsked style seed =
+    let song = composeOf style seed in
+    askedBy (song .outcome) (Writes (sheetBytes seed (song .score) (song .scale) (arrangeOf seed)))

@@ -1,0 +1,70 @@
+// Writers at a place in a buffer: each answers the place after what it wrote. Numbers are big-endian.
+ghost use mathlib.Core.List.{[], _∷_};
+ghost use Prim.Native.Nat.{_+_, _<_, _≤_};
+ghost use lib.ListN.{length};
+ghost use Rattle.laws.specs.Writes.{Wrote};
+ghost use Rattle.pages.specs.Bytes.{be16, be32, be64, f32Bytes, head};
+use streams::float::bits_of;
+
+pub(crate) fn put_u8(buf: &mut [u8], at: usize, x: u8) -> usize
+    requires { ⌜ at + 1 ≤ length (now buf) ⌝ }
+    ensures { λ r. ⌜ Wrote (now (buf .entry)) (now (buf .exit)) at r 1 (x ∷ []) ⌝ }
+{
+    buf[at] = x;
+    at + 1
+}
+
+pub(crate) fn put_u16(buf: &mut [u8], at: usize, x: u16) -> usize
+    requires { ⌜ at + 2 ≤ length (now buf) ⌝ }
+    ensures { λ r. ⌜ Wrote (now (buf .entry)) (now (buf .exit)) at r 2 (be16 x) ⌝ }
+{
+    let a = put_u8(buf, at, (x / 256) as u8);
+    put_u8(buf, a, (x % 256) as u8)
+}
+
+pub(crate) fn put_u32(buf: &mut [u8], at: usize, x: u32) -> usize
+    requires { ⌜ at + 4 ≤ length (now buf) ⌝ }
+    ensures { λ r. ⌜ Wrote (now (buf .entry)) (now (buf .exit)) at r 4 (be32 x) ⌝ }
+{
+    let a = put_u16(buf, at, (x / 65536) as u16);
+    put_u16(buf, a, (x % 65536) as u16)
+}
+
+pub(crate) fn put_u64(buf: &mut [u8], at: usize, x: u64) -> usize
+    requires { ⌜ at + 8 ≤ length (now buf) ⌝ }
+    ensures { λ r. ⌜ Wrote (now (buf .entry)) (now (buf .exit)) at r 8 (be64 x) ⌝ }
+{
+    let a = put_u32(buf, at, (x / 4294967296) as u32);
+    put_u32(buf, a, (x % 4294967296) as u32)
+}
+
+pub(crate) fn put_f32(buf: &mut [u8], at: usize, x: f32) -> usize
+    requires { ⌜ at + 4 ≤ length (now buf) ⌝ }
+    ensures { λ r. ⌜ Wrote (now (buf .entry)) (now (buf .exit)) at r 4 (f32Bytes x) ⌝ }
+{
+    let bits = bits_of(x);
+    put_u32(buf, at, bits)
+}
+
+// The head of a field: its tag and its body's length.
+pub(crate) fn put_head(buf: &mut [u8], at: usize, tag: u8, size: usize) -> usize
+    requires { ⌜ size < 65536 ⌝ }
+    requires { ⌜ at + 3 ≤ length (now buf) ⌝ }
+    ensures { λ r. ⌜ Wrote (now (buf .entry)) (now (buf .exit)) at r 3 (head tag size) ⌝ }
+{
+    let a = put_u8(buf, at, tag);
+    put_u16(buf, a, size as u16)
+}
+
+// Bytes as they stand.
+pub(crate) fn put_bytes(buf: &mut [u8], at: usize, bytes: &[u8]) -> usize
+    requires { ⌜ at + length (now bytes) ≤ length (now buf) ⌝ }
+    ensures { λ r. ⌜ Wrote (now (buf .entry)) (now (buf .exit)) at r (length (now (bytes .entry))) (now (bytes .entry)) ⌝ }
+{
+    let mut i: usize = 0;
+    while i < bytes.len() {
+        buf[at + i] = bytes[i];
+        i += 1;
+    }
+    at + i
+}
