@@ -1,0 +1,32 @@
+-- What is written is no longer than a sheet's most, so the code fits; the rest is the sheet's. Assumes nothing.
+use mathlib.Core.Path.{ap, _∙_}
+use native.Mathlib.Omega.{arith}
+use lib.ListN.{length}
+use mir.Syntax.{w64}
+use mir.ValLaws.{toZ-ofZ}
+use Rattle.pages.specs.Sheet.{sheetAsked}
+use Rattle.pages.proofs.SheetLaws.{sheet-most}
+use Rattle.seqochanu.specs.Code.{codeOf}
+use Rattle.seqochanu.proofs.CodeLaws.{count-most}
+use borrow.Author.Needs.{needs}
+use Rattle.seqochanu.proofs.seqochanu_sheet.Statement.{statement}
+use Rattle.seqochanu.proofs.seqochanu_sheet.Tie as tie
+
+sheet-requires : tie.Need-sheet-requires
+sheet-requires c κs = search needs
+
+code-requires : tie.Need-code-requires
+code-requires c κs =
+    let a = c .before .before .before .before .before .args in
+    rw (c .before .before .sheet .ensures .0) (omega (arith, count-most (length (a .buf .now)) (sheetAsked (a .style) (a .seed)), sheet-most (a .style) (a .seed)))
+
+same-length : tie.Need-same-length
+same-length c = search needs
+
+returns : tie.Need-returns
+returns c =
+    let w = c .before .before .before .sheet .ensures in
+    (toZ-ofZ w64 (c .code .result) (record { sfits = c .code .ok }) ∙ c .code .ensures ∙ ap codeOf (w .0), w .1)
+
+pub seqochanu-sheet-spec : {M : Type 1} → statement M
+seqochanu-sheet-spec = tie.close (tie.spec sheet-requires code-requires same-length returns)

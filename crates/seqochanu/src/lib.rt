@@ -1,0 +1,44 @@
+// The sheet and the bar page for C (include/seqochanu.h).
+ghost use mathlib.Core.Path.{_≡_};
+ghost use Prim.Native.Nat.{_^_, _<_};
+ghost use lib.ListN.{length};
+ghost use Rattle.pages.specs.Answer.{writtenOf, bufferOf};
+ghost use Rattle.pages.specs.Page.{pageAsked};
+ghost use Rattle.pages.specs.Sheet.{sheetAsked};
+ghost use Rattle.seqochanu.specs.Code.{codeOf, countOf};
+use pages::answer::Written;
+use pages::page::bar_page;
+use pages::sheet::sheet;
+
+// The length, or minus the refusal's number.
+fn code(w: Written) -> i64
+    requires { ⌜ countOf w < 2 ^ 63 ⌝ }
+    ensures { λ r. ⌜ r ≡ codeOf w ⌝ }
+{
+    match w {
+        Written::Bytes(n) => n as i64,
+        Written::Refused(r) => -(r.number() as i64),
+    }
+}
+
+// Writes the sheet of a seed's song in style 0 or 1 from the buffer's first byte on and answers its
+// length; what lies beyond stays. Any other style is -1, then a buffer that is shorter than this sheet
+// -2; neither writes anything.
+#[no_mangle]
+pub extern "C" fn seqochanu_sheet(style: u8, seed: u64, buf: &mut [u8]) -> i64
+    ensures { λ r. ⌜ r ≡ codeOf (writtenOf (length (now (buf .entry))) (sheetAsked style seed)) ⌝ }
+    ensures { λ r. ⌜ now (buf .exit) ≡ bufferOf (now (buf .entry)) (sheetAsked style seed) ⌝ }
+{
+    let w = sheet(style, seed, buf);
+    code(w)
+}
+
+// The same for the page of song bar `bar`. A bar that the song does not have is -3, after -1 and before -2.
+#[no_mangle]
+pub extern "C" fn seqochanu_bar_page(style: u8, seed: u64, bar: u64, buf: &mut [u8]) -> i64
+    ensures { λ r. ⌜ r ≡ codeOf (writtenOf (length (now (buf .entry))) (pageAsked style seed bar)) ⌝ }
+    ensures { λ r. ⌜ now (buf .exit) ≡ bufferOf (now (buf .entry)) (pageAsked style seed bar) ⌝ }
+{
+    let w = bar_page(style, seed, bar, buf);
+    code(w)
+}
