@@ -1,4 +1,7 @@
 // What a line asks. The letters are said beside the data, in README.md.
+use pages::answer::Written;
+use pages::page::bar_page;
+use pages::sheet::sheet;
 use probe::draws::probe_coins;
 use probe::draws::probe_picks;
 use probe::draws::probe_units;
@@ -48,12 +51,18 @@ fn song_word(style: u8, seed: u64, k: u64) -> u64 {
     if k < 15 { out[k as usize] } else { u64::MAX }
 }
 
-// FNV-1a over whole words.
+// FNV-1a over whole words: the fold of none, and with one word more.
+const NONE: u64 = 0xcbf2_9ce4_8422_2325;
+
+fn stirred(h: u64, word: u64) -> u64 {
+    wrapping_mul_u64(h ^ word, 0x0000_0100_0000_01b3)
+}
+
 fn fold(words: &[u64]) -> u64 {
-    let mut h: u64 = 0xcbf2_9ce4_8422_2325;
+    let mut h = NONE;
     let mut i: usize = 0;
     while i < words.len() {
-        h = wrapping_mul_u64(h ^ words[i], 0x0000_0100_0000_01b3);
+        h = stirred(h, words[i]);
         i += 1;
     }
     h
@@ -87,6 +96,50 @@ fn folded(style: u8, seed: u64, what: u64) -> u64 {
     }
 }
 
+fn wide(byte: u8) -> u64 {
+    byte as u64
+}
+
+// The fold with bytes more, each a word.
+fn byte_fold(before: u64, bytes: &[u8]) -> u64 {
+    let mut h = before;
+    let mut i: usize = 0;
+    while i < bytes.len() {
+        h = stirred(h, wide(bytes[i]));
+        i += 1;
+    }
+    h
+}
+
+// A fold of the length of what was written and of the whole buffer, or the number of the refusal.
+fn written_fold(written: Written, buf: &[u8]) -> u64 {
+    match written {
+        Written::Bytes(n) => byte_fold(stirred(NONE, n as u64), buf),
+        Written::Refused(r) => r.number() as u64,
+    }
+}
+
+fn sheet_fold(style: u8, seed: u64) -> u64 {
+    let mut buf = [0u8; 5164];
+    let written = sheet(style, seed, &mut buf);
+    written_fold(written, &buf)
+}
+
+fn page_fold(style: u8, seed: u64, bar: u64) -> u64 {
+    let mut buf = [0u8; 653];
+    let written = bar_page(style, seed, bar, &mut buf);
+    written_fold(written, &buf)
+}
+
+// The sheet for 0, the page of bar n for n + 1.
+fn paper_fold(style: u8, seed: u64, k: u64) -> u64 {
+    if k == 0 {
+        sheet_fold(style, seed)
+    } else {
+        page_fold(style, seed, k - 1)
+    }
+}
+
 // Our answer; the largest number for a letter that asks nothing.
 pub fn answer(what: u8, a: u64, b: u64) -> u64 {
     match what {
@@ -101,6 +154,8 @@ pub fn answer(what: u8, a: u64, b: u64) -> u64 {
         b'Z' => song_word(1, a, b),
         b'h' => folded(0, a, b),
         b'z' => folded(1, a, b),
+        b'M' => paper_fold(0, a, b),
+        b'N' => paper_fold(1, a, b),
         _ => u64::MAX,
     }
 }

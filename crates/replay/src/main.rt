@@ -79,5 +79,6 @@ fn main() {
     replay(b"draws");
     replay(b"forms");
     replay(b"songs");
+    replay(b"pages");
     replay(b"wrong");
 }

@@ -1,7 +1,8 @@
-//! Feeds the Rust and our static library the same inputs and compares every value.
+//! Feeds the Rust and our static libraries the same inputs and compares every value.
 //!
-//! `differential COUNT START` compares over COUNT seeds; `differential --record DIR` writes a sample
-//! of the Rust's answers. The Rust's own files stand beside this one when it is compiled (see `run`).
+//! `differential PROGRAM COUNT START` compares over COUNT seeds, and what our PROGRAM writes;
+//! `differential --record DIR` writes a sample of the Rust's answers. The Rust's own files stand beside
+//! this one when it is compiled (see `run`).
 
 // the Rust's files are compiled whole, and the driver asks for a part of them
 #[allow(dead_code, unused_imports)]
@@ -13,11 +14,14 @@ mod style;
 #[allow(dead_code)]
 mod synth;
 
+mod bytes;
 mod draws;
 mod forms;
 mod hits;
 mod made;
 mod ours;
+mod pages;
+mod program;
 mod record;
 mod sample;
 mod scores;
@@ -41,6 +45,7 @@ fn compare(from: u64, to: u64) -> Tally {
         draws::compare_seed(&mut tally, seed);
         forms::compare_seed(&mut tally, seed);
         scores::compare_seed(&mut tally, seed);
+        pages::compare_seed(&mut tally, seed);
         if i % 15 == 0 {
             made::compare_seed(&mut tally, seed);
             hits::compare_seed(&mut tally, seed);
@@ -50,14 +55,14 @@ fn compare(from: u64, to: u64) -> Tally {
 }
 
 /// The run in two halves, each on a thread of its own.
-fn compare_all(start: u64, count: u64) -> u64 {
+fn compare_all(start: u64, count: u64) -> Tally {
     let end = start
         .checked_add(count)
         .expect("a run that ends by the largest number");
     let half = start + count / 2;
     std::thread::scope(|scope| {
         let other = scope.spawn(move || compare(half, end));
-        compare(start, half).compared + other.join().expect("the second half ended").compared
+        compare(start, half).join(other.join().expect("the second half ended"))
     })
 }
 
@@ -70,13 +75,25 @@ fn main() {
     if words.first().is_some_and(|w| w == "--record") {
         return record::write(words.get(1).expect("a folder to write to"));
     }
-    let (count, start) = (number(words.first(), 100_000), number(words.get(1), 0));
+    let program = words.first().expect("our program's path");
+    let (count, start) = (number(words.get(1), 100_000), number(words.get(2), 0));
     let mut edges = Tally::default();
     draws::compare_edges(&mut edges);
     forms::compare_edges(&mut edges);
     made::compare_edges(&mut edges);
     scores::compare_edges(&mut edges);
     hits::compare_edges(&mut edges);
-    let values = edges.compared + compare_all(start, count);
+    pages::compare_edges(&mut edges);
+    program::compare_edges(&mut edges, program);
+    let all = edges.join(compare_all(start, count));
+    let (values, sheet, page) = (all.compared, all.sheet, all.page);
+    println!(
+        "the longest sheet has {} bytes, that of {}",
+        sheet.bytes, sheet.of
+    );
+    println!(
+        "the longest page has {} bytes, that of {}",
+        page.bytes, page.of
+    );
     println!("{count} seeds from {start}: {values} values compared, no difference");
 }

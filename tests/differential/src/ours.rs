@@ -1,5 +1,5 @@
-//! The exported functions of crate `probe`, behind safe wrappers. A slice passes as a pointer and a
-//! length; no function asks more of its caller.
+//! The exported functions of the crates `probe` and `seqochanu`, behind safe wrappers. A slice passes as
+//! a pointer and a length; no function asks more of its caller.
 
 use crate::made::Parts;
 
@@ -37,6 +37,9 @@ mod raw {
         pub fn probe_unbeaten(style: u8, seed: u64, out: *mut u64, len: usize);
         pub fn probe_kicks(style: u8, seed: u64, out: *mut u64, len: usize);
         pub fn probe_made_kicks(words: *const u64, count: usize, out: *mut u64, len: usize);
+        pub fn probe_counters(style: u8, seed: u64, out: *mut u64, len: usize) -> i64;
+        pub fn seqochanu_sheet(style: u8, seed: u64, buf: *mut u8, len: usize) -> i64;
+        pub fn seqochanu_bar_page(style: u8, seed: u64, bar: u64, buf: *mut u8, len: usize) -> i64;
     }
 }
 
@@ -119,4 +122,16 @@ pub fn kicks(style: u8, seed: u64, out: &mut [u64]) {
 pub fn made_kicks(words: &[u64], out: &mut [u64]) {
     let (made, count) = (words.as_ptr(), words.len());
     unsafe { raw::probe_made_kicks(made, count, out.as_mut_ptr(), out.len()) }
+}
+
+pub fn counters(style: u8, seed: u64, out: &mut [u64]) -> i64 {
+    unsafe { raw::probe_counters(style, seed, out.as_mut_ptr(), out.len()) }
+}
+
+pub fn sheet(style: u8, seed: u64, buf: &mut [u8]) -> i64 {
+    unsafe { raw::seqochanu_sheet(style, seed, buf.as_mut_ptr(), buf.len()) }
+}
+
+pub fn bar_page(style: u8, seed: u64, bar: u64, buf: &mut [u8]) -> i64 {
+    unsafe { raw::seqochanu_bar_page(style, seed, bar, buf.as_mut_ptr(), buf.len()) }
 }

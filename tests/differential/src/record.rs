@@ -1,13 +1,16 @@
 //! Writes a sample of the Rust's answers, which crate `replay` runs with no Rust at hand. A line is a
 //! letter and three words of 16 hexadecimal digits: what is asked, two arguments, the answer.
 
-use crate::compose::arrange;
+use crate::bytes::{PAGE_MOST, SHEET_MOST, page, sheet};
+use crate::compose::reach::form::plays_at;
 use crate::compose::reach::{STAGES, STYLES, coin, kicks, pick, take};
+use crate::compose::{Form, arrange};
 use crate::draws::stream_with;
 use crate::dsp::reach::{next_u64, seed_of, stream};
 use crate::scores::unbeaten;
 use crate::words::{kick_words, words_of};
 use crate::{forms, sample, songs};
+use std::collections::{BTreeMap, BTreeSet};
 
 /// What is asked, its two arguments, the answer.
 type Line = (char, u64, u64, u64);
@@ -75,6 +78,43 @@ fn song_lines(lines: &mut Vec<Line>, seed: u64) {
     }
 }
 
+/// The bars whose pages are recorded: the first and the last of intro, body and outro, the body's first
+/// eight, which show every loop bar, and the first with each set of layers.
+fn chosen(form: &Form) -> BTreeSet<usize> {
+    let parts = form.parts().into_iter().filter(|part| !part.is_empty());
+    let ends = parts.flat_map(|part| [part.start, part.end - 1]);
+    let phrase = form.intro()..form.intro() + 8;
+    let layers: BTreeMap<u64, usize> = (0..form.bars())
+        .rev()
+        .map(|bar| (plays_at(form, bar), bar))
+        .collect();
+    ends.chain(phrase).chain(layers.into_values()).collect()
+}
+
+/// A fold of the length of what is written, and of the buffer of `most` zeros that it is written to.
+fn byte_fold(bytes: &[u8], most: usize) -> u64 {
+    let mut words = vec![bytes.len() as u64];
+    words.extend(bytes.iter().map(|&byte| u64::from(byte)));
+    words.resize(1 + most, 0);
+    fold(&words)
+}
+
+/// M, N: a fold of what is written for the song seed a in hiphop and in sleep: b is 0 for the sheet, n + 1
+/// for the page of bar n. The bar after the last has document 01's refusal 3.
+fn page_lines(lines: &mut Vec<Line>, seed: u64) {
+    let form = arrange(seed);
+    for (style, what) in (0..).zip(['M', 'N']) {
+        let take = take(STYLES[usize::from(style)], seed);
+        let sheet = sheet(style, seed, &take, &form);
+        lines.push((what, seed, 0, byte_fold(&sheet, SHEET_MOST)));
+        for bar in chosen(&form) {
+            let page = page(&take, &form, bar);
+            lines.push((what, seed, bar as u64 + 1, byte_fold(&page, PAGE_MOST)));
+        }
+        lines.push((what, seed, form.bars() as u64 + 1, 3));
+    }
+}
+
 fn write_lines(folder: &str, name: &str, lines: &[Line]) {
     let text: String = (lines.iter())
         .map(|(what, a, b, answer)| format!("{what} {a:016x} {b:016x} {answer:016x}\n"))
@@ -94,9 +134,11 @@ pub fn write(folder: &str) {
         form_lines(&mut forms, seed);
     }
     write_lines(folder, "forms", &forms);
-    let mut songs = Vec::new();
+    let (mut songs, mut pages) = (Vec::new(), Vec::new());
     for seed in songs::seeds() {
         song_lines(&mut songs, seed);
+        page_lines(&mut pages, seed);
     }
     write_lines(folder, "songs", &songs);
+    write_lines(folder, "pages", &pages);
 }

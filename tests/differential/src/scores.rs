@@ -1,4 +1,4 @@
-//! The scores: a seed's own in both styles, the same without its drums, and its kicks.
+//! The scores: a seed's own in both styles, the same without its drums, its kicks, and the counters.
 
 use crate::compose::reach::{STYLES, Take, kicks, take};
 use crate::draws::{around, seed_with};
@@ -42,6 +42,25 @@ pub fn our_words(count: usize, fill: impl FnOnce(&mut [u64])) -> Vec<u64> {
     words
 }
 
+/// The counters of the seven streams, into buffers of 7 places, fewer and more; or document 01's refusal.
+fn compare_counters(tally: &mut Tally, style: u8, seed: u64, rust: Result<[u64; 7], i64>) {
+    for places in [7, 6, 0, 9] {
+        let mut wanted = vec![u64::MAX; places];
+        let answer = match rust {
+            Err(number) => -number,
+            Ok(_) if places < 7 => -2,
+            Ok(counters) => {
+                wanted[..7].copy_from_slice(&counters);
+                7
+            }
+        };
+        let mut ours = vec![u64::MAX; places];
+        let what = || format!("the counters of {seed:#x} in style {style}, {places} places");
+        tally.same(what, answer, ours::counters(style, seed, &mut ours));
+        tally.same_words(what, |k| format!("word {k}"), &wanted, &ours);
+    }
+}
+
 /// The seed's song in a style.
 fn compare_song(tally: &mut Tally, style: u8, seed: u64) {
     let song = || format!("the song of {seed:#x} in style {style}");
@@ -56,6 +75,7 @@ fn compare_song(tally: &mut Tally, style: u8, seed: u64) {
         &rust,
         &ours,
     );
+    compare_counters(tally, style, seed, Ok(take.counters));
     let rust = words_of(style, &unbeaten(take));
     let ours = our_words(WORDS, |out| ours::unbeaten(style, seed, out));
     tally.same_words(|| format!("{} unbeaten", song()), word_name, &rust, &ours);
@@ -75,6 +95,7 @@ fn compare_refused(tally: &mut Tally, style: u8, seed: u64) {
     let what = || format!("the song of {seed:#x} in style {style}");
     let ours = our_words(WORDS, |out| ours::score(style, seed, out));
     tally.same_words(what, word_name, &refused, &ours);
+    compare_counters(tally, style, seed, Err(1));
 }
 
 /// Buffers with no place, with fewer than a song's words, and with more.

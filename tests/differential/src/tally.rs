@@ -8,9 +8,26 @@ pub struct Run {
     pub counter: u64,
 }
 
+/// The longest of its kind that a run has seen, and what it is.
+#[derive(Default)]
+pub struct Longest {
+    pub bytes: usize,
+    pub of: String,
+}
+
+impl Longest {
+    pub fn see(&mut self, bytes: usize, of: impl FnOnce() -> String) {
+        if bytes > self.bytes {
+            *self = Longest { bytes, of: of() };
+        }
+    }
+}
+
 #[derive(Default)]
 pub struct Tally {
     pub compared: u64,
+    pub sheet: Longest,
+    pub page: Longest,
 }
 
 impl Tally {
@@ -37,6 +54,22 @@ impl Tally {
         for (k, (r, o)) in rust.iter().zip(ours).enumerate() {
             self.same(|| format!("{} of {}", name(k), what()), r, o);
         }
+    }
+
+    /// Bytes more, each by its place.
+    pub fn same_bytes(&mut self, what: impl Fn() -> String, rust: &[u8], ours: &[u8]) {
+        assert_eq!(rust.len(), ours.len(), "both sides have as many bytes");
+        for (k, (r, o)) in rust.iter().zip(ours).enumerate() {
+            self.same(|| format!("byte {k} of {}", what()), r, o);
+        }
+    }
+
+    /// What another tally has, added to this one.
+    pub fn join(mut self, other: Tally) -> Tally {
+        self.compared += other.compared;
+        self.sheet.see(other.sheet.bytes, || other.sheet.of);
+        self.page.see(other.page.bytes, || other.page.of);
+        self
     }
 
     /// A run of draws more: each value, and the counter afterwards.

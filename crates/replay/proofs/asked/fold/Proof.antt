@@ -14,14 +14,14 @@ abbrev μ-loop : tie.MeasureT-loop
 loop-holds : tie.Need-loop-holds Inv-loop μ-loop
 loop-holds c = search needs
 
-mul-wrapping-mul-u64 : tie.Need-mul-wrapping-mul-u64 Inv-loop μ-loop
-mul-wrapping-mul-u64 c = search needs
+mul-stirred : tie.Need-mul-stirred Inv-loop μ-loop
+mul-stirred c = search needs
 
-shared-slice-read-wrapping-mul-u64 : tie.Need-shared-slice-read-wrapping-mul-u64 Inv-loop μ-loop
-shared-slice-read-wrapping-mul-u64 c = search needs
+shared-slice-read-stirred : tie.Need-shared-slice-read-stirred Inv-loop μ-loop
+shared-slice-read-stirred c = search needs
 
-wrapping-mul-u64-requires : tie.Need-wrapping-mul-u64-requires Inv-loop μ-loop
-wrapping-mul-u64-requires c κs = search needs
+stirred-requires : tie.Need-stirred-requires Inv-loop μ-loop
+stirred-requires c κs = search needs
 
 add-i : tie.Need-add-i Inv-loop μ-loop
 add-i c = search needs
@@ -42,9 +42,9 @@ fold-spec =
     Inv-loop
     μ-loop
     loop-holds
-    mul-wrapping-mul-u64
-    shared-slice-read-wrapping-mul-u64
-    wrapping-mul-u64-requires
+    mul-stirred
+    shared-slice-read-stirred
+    stirred-requires
     add-i
     loop-less
     loop-again
