@@ -24,11 +24,10 @@ use Rattle.composer.specs.declared.style.Style.{Style}
 use Rattle.composer.proofs.ComposeLaws.{song-promise}
 use Rattle.composer.proofs.form.Arranged.{arranged-promise}
 use Rattle.composer.proofs.form.PromiseLaws.{promise-more}
-use Rattle.pages.specs.Answer.{Writes, bytesOf, writtenOf, bufferOf}
+use Rattle.pages.specs.Answer.{Writes, bytesOf, writtenOf, bufferOf, writtenAnswered}
 use Rattle.pages.specs.Demand3.{bodyOf, has, IsNote, LeadNote, BassNote, pageAt, bodyPage, Demand3}
 use Rattle.pages.specs.Lane.{eventsOf, drawnFor}
 use Rattle.pages.specs.Page.{loopBarOf, shown, pageBytes, pageAsked}
-use Rattle.pages.specs.declared.answer.Written.{Written}
 use Rattle.pages.specs.declared.lane.Lane.{Lane}
 use Rattle.pages.proofs.AnswerLaws.{room-written, room-buffer}
 use Rattle.pages.proofs.PageLaws.{composed-is, page-found}
@@ -66,10 +65,10 @@ module _ (style : Style) (seed b : ℕ) (p : Plays) (plays : playsAt (arrangeOf 
 
   -- a buffer long enough
   page-written : (buf : List ℕ) → length page ≤ length buf
-      → (writtenOf (length buf) (pageAsked (styleNumberOf style) seed b) ≡ Written.Bytes (length page)) × (bufferOf buf (pageAsked (styleNumberOf style) seed b) ≡ page ++ drop (length page) buf)
+      → (writtenAnswered (writtenOf (length buf) (pageAsked (styleNumberOf style) seed b)) ≡ Gives (length page)) × (bufferOf buf (pageAsked (styleNumberOf style) seed b) ≡ page ++ drop (length page) buf)
   page-written buf h =
       let room : length (pageBytes s p bar) ≤ length buf = rw page-is at h in
-      rw page-asked (room-written (pageBytes s p bar) buf room, room-buffer (pageBytes s p bar) buf room)
+      rw page-asked (ap writtenAnswered (room-written (pageBytes s p bar) buf room), room-buffer (pageBytes s p bar) buf room)
 
   -- what the bar plays, its page has
   chord-has : p .pad ≡ true → has 0x03 page ≡ true

@@ -11,13 +11,13 @@ use Rattle.composer.specs.Form.{introBarsOf}
 use Rattle.composer.specs.Form.Promise.{BodyPromise}
 use Rattle.composer.specs.Form.Song.{arrangeOf}
 use Rattle.composer.specs.Harmony.{notesOf}
+use Rattle.composer.specs.Refusal.{Gives}
 use Rattle.composer.specs.Style.{styleNumberOf, leadStyleOf}
 use Rattle.composer.specs.declared.compose.Composed.{Composed}
 use Rattle.composer.specs.declared.harmony.Scale.{Scale}
 use Rattle.composer.specs.declared.style.Style.{Style}
-use Rattle.pages.specs.Answer.{bytesOf, writtenOf, bufferOf}
+use Rattle.pages.specs.Answer.{bytesOf, writtenOf, bufferOf, writtenAnswered}
 use Rattle.pages.specs.Page.{loopBarOf, pageAsked}
-use Rattle.pages.specs.declared.answer.Written.{Written}
 
 -- ---- reading a page
 -- the body of the first field with this tag among the first n fields
@@ -68,7 +68,7 @@ bodyPage style seed b = pageAt style seed (introBarsOf (arrangeOf seed) + b)
 pub record Demand3 (style : Style) (seed : ℕ) : Type 0 where
   -- for every song bar, intro and outro included, bar page writes this page into a buffer long enough
   pub written : (b : ℕ) → b < arrangeOf seed .bars → (buf : List ℕ) → length (pageAt style seed b) ≤ length buf
-      → (writtenOf (length buf) (pageAsked (styleNumberOf style) seed b) ≡ Written.Bytes (length (pageAt style seed b)))
+      → (writtenAnswered (writtenOf (length buf) (pageAsked (styleNumberOf style) seed b)) ≡ Gives (length (pageAt style seed b)))
       × (bufferOf buf (pageAsked (styleNumberOf style) seed b) ≡ pageAt style seed b ++ drop (length (pageAt style seed b)) buf)
   -- which pages of the body have chord, hits and bass; P is the number of phrases in the seed's form
   pub body : BodyPromise (arrangeOf seed .phrases) (λ b. has 0x03 (bodyPage style seed b)) (λ b. has 0x07 (bodyPage style seed b)) (λ b. has 0x08 (bodyPage style seed b))
