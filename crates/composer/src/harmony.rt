@@ -129,7 +129,7 @@ fn chords(key: u8, row: [u8; 8]) -> [Chord; 8]
     out
 }
 
-// Three draws: major or minor, the loop, the key.
+// A harmony of the style, from three draws: major or minor, the loop, the key.
 pub fn harmony_of(s: NoiseStream, style: Style) -> HarmonyDraw
     ensures { λ r. ⌜ r ≡ harmonyOf s style ⌝ }
 {
@@ -156,7 +156,7 @@ pub fn harmony_of(s: NoiseStream, style: Style) -> HarmonyDraw
     }
 }
 
-// The eight chords of four notes.
+// The four notes of each bar's chord.
 pub fn bar_chords(bars: [Chord; 8]) -> [[u8; 4]; 8]
     ensures { λ r. ⌜ r ≡ notesOf bars ⌝ }
 {

@@ -66,7 +66,7 @@ fn heard(hits: [Hit; 98], n: usize) -> KickTimes
     t
 }
 
-// Every kick's time in the loop, in order; a count of more than 98 hits is refused.
+// Every kick's time in the loop, in order; a count of more than 98 hits is refused with 4.
 pub fn kicks(score: Score) -> KicksAnswer
     ensures { λ r. ⌜ r ≡ kicksOf score ⌝ }
 {

@@ -32,6 +32,7 @@ pub fn between(lo: f32, hi: f32) -> Spread
 }
 
 impl Spread {
+    // A value of the spread, from one draw.
     pub fn draw(self, s: NoiseStream) -> Drawn
         ensures { λ r. ⌜ r ≡ drawOf self s ⌝ }
     {
@@ -43,7 +44,7 @@ impl Spread {
         }
     }
 
-    // t, delayed by a draw.
+    // t, delayed by a value of the spread, from one draw.
     pub fn after(self, t: f32, s: NoiseStream) -> Drawn
         ensures { λ r. ⌜ r ≡ afterOf self t s ⌝ }
     {
@@ -57,6 +58,7 @@ impl Spread {
 }
 
 impl Jitter {
+    // A time before or after the grid, from one draw.
     pub fn draw(self, s: NoiseStream) -> Drawn
         ensures { λ r. ⌜ r ≡ jitterOf self s ⌝ }
     {

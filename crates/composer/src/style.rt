@@ -101,6 +101,7 @@ pub fn bpm(style: Style) -> Spread
     }
 }
 
+// How a style writes its lead.
 pub fn lead_style(style: Style) -> LeadStyle
     ensures { λ r. ⌜ r ≡ leadStyleOf style ⌝ }
 {
@@ -130,6 +131,7 @@ pub fn lead_style(style: Style) -> LeadStyle
     }
 }
 
+// How a style writes its keys.
 pub fn keys_style(style: Style) -> KeysStyle
     ensures { λ r. ⌜ r ≡ keysStyleOf style ⌝ }
 {
@@ -156,6 +158,7 @@ pub fn keys_style(style: Style) -> KeysStyle
     }
 }
 
+// How a style writes its bass.
 pub fn bass_style(style: Style) -> BassStyle
     ensures { λ r. ⌜ r ≡ bassStyleOf style ⌝ }
 {

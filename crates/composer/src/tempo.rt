@@ -20,7 +20,7 @@ fn rounded(x: f32) -> u64
     if d >= 0.5 { t + 1 } else { t }
 }
 
-// One draw, rounded.
+// The tempo in beats per minute, a whole number of the style's window, from one draw.
 pub fn tempo(s: NoiseStream, style: Style) -> Drawn
     ensures { λ r. ⌜ r ≡ tempoOf s style ⌝ }
 {

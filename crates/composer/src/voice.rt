@@ -57,7 +57,7 @@ fn voice_by(style: Style, u: f32) -> LeadVoice
     }
 }
 
-// One draw.
+// The voice of a song in the style, from one draw.
 pub fn lead_voice(s: NoiseStream, style: Style) -> VoiceDraw
     ensures { λ r. ⌜ r ≡ leadVoiceOf s style ⌝ }
 {

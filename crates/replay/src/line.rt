@@ -43,6 +43,7 @@ fn word(s: &[u8], at: usize) -> u64
     w
 }
 
+// A line's letter and words; what is missing counts as 0.
 pub fn parsed(s: &[u8]) -> Line {
     let a = word(s, 2);
     let b = word(s, 19);

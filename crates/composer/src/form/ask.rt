@@ -31,7 +31,8 @@ fn is_sound(f: Form) -> bool
     (parts == bars) & (parts <= 64)
 }
 
-// The layers that strike in song bar `bar`.
+// The layers that strike in song bar `bar`. A form whose parts are not its bars, or are more than 64, is
+// refused with 4, then a bar that it does not have with 3.
 pub fn plays(f: Form, bar: usize) -> PlaysAnswer
     ensures { λ r. ⌜ r ≡ playsOf f bar ⌝ }
 {
@@ -61,7 +62,8 @@ fn fill(plays: [Plays; 64], a: u8, n: u16) -> [Plays; 64]
     out
 }
 
-// The form that a band with no beat plays: its body whole, no edge, no dip.
+// The form that a band with no beat plays: its body whole, no edge, no dip. A form whose parts are not its
+// bars, or are more than 64, is refused with 4 and handed back.
 pub fn beatless(f: Form) -> FormAnswer
     ensures { λ r. ⌜ r ≡ beatlessOf f ⌝ }
 {

@@ -227,7 +227,7 @@ fn draw_all(s: NoiseStream) -> Units
     }
 }
 
-// Draws all 29 and decides.
+// What the 29 draws of a stream decide.
 pub fn decide(s: NoiseStream) -> Decided
     ensures { λ r. ⌜ r ≡ decideOf s ⌝ }
 {

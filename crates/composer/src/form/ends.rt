@@ -28,6 +28,7 @@ pub enum Outro {
 }
 
 impl Bars {
+    // Them as a number.
     pub fn count(self) -> u8
         ensures { λ r. ⌜ r ≡ countOf self ⌝ }
     {
@@ -51,6 +52,7 @@ impl Edge {
 }
 
 impl End {
+    // The bars it has, none if it is cold.
     pub fn bars(self) -> u8
         ensures { λ r. ⌜ r ≡ endBarsOf self ⌝ }
     {
@@ -96,6 +98,7 @@ impl End {
 }
 
 impl Outro {
+    // The bars it has; a ring-out has two.
     pub fn bars(self) -> u8
         ensures { λ r. ⌜ r ≡ outroLengthOf self ⌝ }
     {

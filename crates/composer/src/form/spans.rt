@@ -63,7 +63,7 @@ fn spans_by(mutes: bool, moves: bool) -> SpansAnswer
     }
 }
 
-// Whether the forms of the seeds span a form.
+// Whether the forms of the seeds span a form, or what none of them does: mute a layer, then move an edge or dip.
 pub fn spans(seeds: &[u64]) -> SpansAnswer
     ensures { λ r. ⌜ r ≡ spansOf (now (seeds .entry)) ⌝ }
 {

@@ -1,6 +1,6 @@
 -- The truncated product is the definition's, and the branches are its cap. Assumes nothing.
-use mathlib.Core.Path.{_≡_, ap}
-use Prim.Native.Nat.{ℕ, _-_, min}
+use mathlib.Core.Path.{_≡_, ap, _∙_}
+use Prim.Native.Nat.{ℕ, _-_, _^_, min}
 use native.Mathlib.Omega.{arith}
 use Rattle.streams.specs.Draw.{pickedOf}
 use Rattle.laws.proofs.Exact.{exact}
@@ -9,12 +9,17 @@ use Rattle.streams.proofs.draw.part.Statement.{statement}
 use Rattle.streams.proofs.draw.part.Tie as tie
 
 -- the pick, by the truncated product
-capped : (a : tie.After-truncated) → min (a .truncated .result) (a .before .before .args .n - 1) ≡ pickedOf (a .before .before .args .u) (a .before .before .args .n)
+capped : (a : tie.After-truncated) → min (a .truncated .result) (a .before .before .exact .result - 1) ≡ pickedOf (a .before .before .before .args .u) (min (a .before .before .before .args .n) (2 ^ 24))
 unfolding pickedOf
-capped a = ap (λ (t : ℕ). min t (a .before .before .args .n - 1)) (a .truncated .ensures)
+capped a =
+    ap (λ (t : ℕ). min t (a .before .before .exact .result - 1)) (a .truncated .ensures)
+    ∙ ap (pickedOf (a .before .before .before .args .u)) (a .before .before .exact .ensures .0)
+
+exact-requires : tie.Need-exact-requires
+exact-requires c κs = search needs
 
 int-to-float-truncated : tie.Need-int-to-float-truncated
-int-to-float-truncated c = exact (c .before .args .n) (omega arith)
+int-to-float-truncated c = exact (c .before .exact .result) (c .before .exact .ensures .1)
 
 truncated-requires : tie.Need-truncated-requires
 truncated-requires c κs = search needs
@@ -38,6 +43,7 @@ pub part-spec : {M : Type 1} → statement M
 part-spec =
     tie.close
     (tie.spec
+    exact-requires
     int-to-float-truncated
     truncated-requires
     cast-result
