@@ -1,20 +1,22 @@
 // The drums stage: a groove of the style's, laid over the loop's eight bars.
 ghost use mathlib.Core.Path.{_≡_};
-ghost use Prim.Native.Nat.{_+_, _≤_};
-ghost use Rattle.composer.specs.Drums.{barOf, layBarOf, layGrooveOf, drumsOf};
+ghost use Prim.Native.Nat.{_≤_};
+ghost use Rattle.composer.specs.Drums.{barOf, layGrooveOf, drumsOf};
 use crate::drums::grooves::Groove;
 use crate::drums::grooves::SLEEP_GROOVE;
 use crate::drums::grooves::hiphop_groove;
 use crate::drums::kit::Bar;
-use crate::drums::kit::drawn_on;
-use crate::drums::kit::lay_hats;
-use crate::drums::kit::lay_kicks;
-use crate::drums::kit::lay_snares;
+use crate::drums::kit::hat_hit;
+use crate::drums::kit::kick_count;
+use crate::drums::kit::kick_hit;
+use crate::drums::kit::kick_of;
+use crate::drums::kit::snare_hit;
 use crate::note::Hit;
 use crate::note::NO_HIT;
 use crate::spread::Spread;
 use crate::style::Style;
 use crate::timing::BEATS_PER_BAR;
+use streams::draw::chance;
 use streams::draw::pick;
 use streams::stream::NoiseStream;
 
@@ -46,33 +48,56 @@ fn bar_of(number: u8, beat_s: f32, wobble: f32) -> Bar
     }
 }
 
-// The wobble is drawn first, then come the kicks, the snares and the hats.
-fn lay_bar(l: DrumLane, g: Groove, beat_s: f32, number: u8) -> DrumLane
-    requires { ⌜ (l .count + 13 ≤ 98) × (g .«snare_count» ≤ 2) ⌝ }
-    ensures { λ r. ⌜ r ≡ layBarOf l g «beat_s» number ⌝ }
-{
-    let w = WOBBLE.draw(l.stream);
-    let bar = bar_of(number, beat_s, w.value);
-    let a = drawn_on(l, w.stream);
-    let b = lay_kicks(a, g, bar);
-    let c = lay_snares(b, g, bar);
-    lay_hats(c, g, bar)
-}
-
+// Each bar draws its wobble first, then its kicks, its snares and its hats. An eighth that may not
+// strike draws nothing, one that stays silent draws only that.
 fn lay_groove(s: NoiseStream, g: Groove, beat_s: f32) -> DrumLane
     requires { ⌜ g .«snare_count» ≤ 2 ⌝ }
     ensures { λ r. ⌜ r ≡ layGrooveOf s g «beat_s» ⌝ }
 {
-    let hits = [NO_HIT; 98];
-    let mut out = DrumLane {
-        hits: hits,
-        count: 0,
-        stream: s,
-    };
+    let mut hits = [NO_HIT; 98];
+    let mut count: usize = 0;
+    let mut stream = s;
     for number in 0..8u8 {
-        out = lay_bar(out, g, beat_s, number);
+        let w = WOBBLE.draw(stream);
+        let bar = bar_of(number, beat_s, w.value);
+        stream = w.stream;
+        let kicks = kick_count(g, bar);
+        for k in 0..kicks {
+            let d = kick_hit(stream, bar, g.drag_s, kick_of(g, k));
+            let hit = d.hit;
+            hits[count] = hit;
+            count += 1;
+            stream = d.stream;
+        }
+        for i in 0..g.snare_count {
+            let d = snare_hit(stream, bar, g.snares[i], g.snare_gain);
+            let hit = d.hit;
+            hits[count] = hit;
+            count += 1;
+            stream = d.stream;
+        }
+        for e in 0..8u8 {
+            let out_of_play = g.hats.off_eighths_only & (e % 2 == 0);
+            if out_of_play {
+                continue;
+            }
+            let skip = chance(stream, g.hats.skip_p);
+            stream = skip.stream;
+            if skip.value {
+                continue;
+            }
+            let d = hat_hit(stream, g, bar, e);
+            let hit = d.hit;
+            hits[count] = hit;
+            count += 1;
+            stream = d.stream;
+        }
     }
-    out
+    DrumLane {
+        hits: hits,
+        count: count,
+        stream: stream,
+    }
 }
 
 // Hiphop draws one of its four grooves, sleep draws nothing for its one.

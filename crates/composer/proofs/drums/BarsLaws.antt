@@ -15,7 +15,7 @@ use Rattle.composer.specs.Note.{noHit, pastHit, hitBar}
 use Rattle.composer.specs.Spread.{drawOf}
 use Rattle.composer.specs.Drums.{wobble, barOf, layBarOf, barsTo, noHits}
 use Rattle.composer.specs.Drums.Grooves.{ghostKick}
-use Rattle.composer.specs.Drums.Kit.{endsStatement, drawnOn, pushKickOf, layKicksOf, pushSnareOf, snaresTo, laySnaresOf, pushHatOf, layHatOf, hatsTo}
+use Rattle.composer.specs.Drums.Kit.{endsStatement, drawnOn, kickHitOf, pushKickOf, layKicksOf, snareHitOf, pushSnareOf, snaresTo, laySnaresOf, hatHitOf, pushHatOf, layHatOf, hatsTo}
 use Rattle.composer.specs.declared.note.Hit.{Hit}
 use Rattle.composer.specs.declared.drums.DrumLane.{DrumLane}
 use Rattle.composer.specs.declared.drums.grooves.Kick.{Kick}
@@ -37,16 +37,16 @@ adds-then : (b : ℕ) (l m k : DrumLane) → Adds b l m → Adds b m k → Adds 
 adds-then b l m k = grown-then pastHit (InBar b) (l .hits) (m .hits) (k .hits) (l .count) (m .count) (k .count)
 
 kick-adds : (l : DrumLane) (bar : Bar) (dragS : Float) (k : Kick) → l .count < length (l .hits) → Adds (bar .number) l (pushKickOf l bar dragS k)
-unfolding pushKickOf
+unfolding pushKickOf kickHitOf
 kick-adds l bar dragS k h = grown-push pastHit (InBar (bar .number)) (l .hits) (l .count) _ h refl
 
 snare-adds : (l : DrumLane) (bar : Bar) (beat gain : Float) → l .count < length (l .hits) → Adds (bar .number) l (pushSnareOf l bar beat gain)
-unfolding pushSnareOf
+unfolding pushSnareOf snareHitOf
 snare-adds l bar beat gain h = grown-push pastHit (InBar (bar .number)) (l .hits) (l .count) _ h refl
 
 module _ (g : Groove) (bar : Bar) where
   hat-adds : (l : DrumLane) (e : ℕ) → l .count < length (l .hits) → Adds (bar .number) l (pushHatOf l g bar e)
-  unfolding pushHatOf
+  unfolding pushHatOf hatHitOf
   hat-adds l e h = grown-push pastHit (InBar (bar .number)) (l .hits) (l .count) _ h refl
 
   kicks-add : (l : DrumLane) → l .count + 3 ≤ length (l .hits) → Adds (bar .number) l (layKicksOf l g bar)

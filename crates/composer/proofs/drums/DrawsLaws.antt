@@ -15,7 +15,7 @@ use Rattle.streams.proofs.StreamLaws.{after-on}
 use Rattle.streams.proofs.DrawLaws.{chance-advances}
 use Rattle.composer.specs.Spread.{drawOf, jitterOf}
 use Rattle.composer.specs.Drums.{wobble, barOf, layBarOf, barsTo}
-use Rattle.composer.specs.Drums.Kit.{endsStatement, drawnOn, hitAccent, kickJitter, pushKickOf, layKicksOf, snareJitter, pushSnareOf, snaresTo, laySnaresOf, hatJitter, pushHatOf, layHatOf, hatsTo}
+use Rattle.composer.specs.Drums.Kit.{endsStatement, drawnOn, hitAccent, kickJitter, kickHitOf, pushKickOf, layKicksOf, snareJitter, snareHitOf, pushSnareOf, snaresTo, laySnaresOf, hatJitter, hatHitOf, pushHatOf, layHatOf, hatsTo}
 use Rattle.composer.specs.declared.spread.Spread.{Spread}
 use Rattle.composer.specs.declared.spread.Jitter.{Jitter}
 use Rattle.composer.specs.declared.drums.DrumLane.{DrumLane}
@@ -41,16 +41,16 @@ module _ (s : NoiseStream) where
       draw-advances (jitterOf j (l .stream) .stream) p ∙ after-on s (jitterOf j (l .stream) .stream) (n + 2 * l .count + 1) (n + 2 * (l .count + 1)) a (omega arith)
 
   kick-made : (n : ℕ) (l : DrumLane) (bar : Bar) (dragS : Float) (k : Kick) → Made s n l → Made s n (pushKickOf l bar dragS k)
-  unfolding pushKickOf
+  unfolding pushKickOf kickHitOf
   kick-made n l bar dragS k m = hit-made n l kickJitter hitAccent m
 
   snare-made : (n : ℕ) (l : DrumLane) (bar : Bar) (beat gain : Float) → Made s n l → Made s n (pushSnareOf l bar beat gain)
-  unfolding pushSnareOf
+  unfolding pushSnareOf snareHitOf
   snare-made n l bar beat gain m = hit-made n l snareJitter hitAccent m
 
   module _ (g : Groove) where
     hat-made : (n : ℕ) (l : DrumLane) (bar : Bar) (e : ℕ) → Made s n l → Made s n (pushHatOf l g bar e)
-    unfolding pushHatOf
+    unfolding pushHatOf hatHitOf
     hat-made n l bar e m = hit-made n l hatJitter (g .hats .velocity) m
 
     kicks-made : (n : ℕ) (l : DrumLane) (bar : Bar) → Made s n l → Made s n (layKicksOf l g bar)

@@ -1,6 +1,6 @@
--- How many hits a bar adds: two or three kicks, its snares, and at most eight hats. Assumes nothing.
+-- A bar laid hit by hit, and how many hits it adds: two or three kicks, its snares, and at most eight hats. Assumes nothing.
 use mathlib.Core.Path.{_≡_, refl, sym, subst}
-use mathlib.Core.Bool.{true, _&&_}
+use mathlib.Core.Bool.{Bool, true, false, _&&_, cond}
 use Prim.Native.Nat.{ℕ, zero, suc, _+_, _*_, _/_, _%_, _≤_}
 use native.Mathlib.Omega.{arith}
 use borrow.Author.Tests.{eqb-true}
@@ -11,7 +11,9 @@ use Rattle.laws.proofs.Bools.{holds, cond-by, either}
 use Rattle.streams.specs.Draw.{chanceOf}
 use Rattle.composer.specs.Spread.{drawOf}
 use Rattle.composer.specs.Drums.{wobble, barOf, layBarOf, barsTo}
-use Rattle.composer.specs.Drums.Kit.{endsStatement, drawnOn, pushKickOf, layKicksOf, pushSnareOf, snaresTo, laySnaresOf, pushHatOf, layHatOf, hatsTo}
+use Rattle.composer.specs.Drums.Grooves.{ghostKick}
+use Rattle.composer.specs.Drums.Kit.{endsStatement, drawnOn, pushKickOf, layKicksOf, kickCountOf, kickOf, pushSnareOf, snaresTo, laySnaresOf, pushHatOf, layHatOf, hatsTo}
+use Rattle.composer.specs.declared.spread.Drawn.{Drawn}
 use Rattle.composer.specs.declared.drums.DrumLane.{DrumLane}
 use Rattle.composer.specs.declared.drums.grooves.Kick.{Kick}
 use Rattle.composer.specs.declared.drums.grooves.Groove.{Groove}
@@ -20,6 +22,9 @@ use Rattle.composer.specs.declared.drums.kit.Bar.{Bar}
 pub kick-count : (l : DrumLane) (bar : Bar) (dragS : Float) (k : Kick) → pushKickOf l bar dragS k .count ≡ l .count + 1
 unfolding pushKickOf
 kick-count l bar dragS k = refl
+
+pub kick-few : (g : Groove) (bar : Bar) → kickCountOf g bar ≤ 3
+kick-few g bar = either (λ (n : ℕ). n ≤ 3) (g .«ghost_pickup» && endsStatement bar) 3 2 (omega arith) (omega arith)
 
 module _ (l : DrumLane) (g : Groove) (bar : Bar) where
   pub kicks-least : l .count + 2 ≤ layKicksOf l g bar .count
@@ -36,6 +41,23 @@ module _ (l : DrumLane) (g : Groove) (bar : Bar) where
       cond-by (λ (m : DrumLane). m .count + bar .number / 4 ≤ l .count + 2 + (bar .number + 1) / 4) (g .«ghost_pickup» && endsStatement bar) _ _
       (λ e. omega (arith, statement-ends e))
       (λ e. omega arith)
+
+  -- the first k kicks
+  unfoldable pub kicksTo : ℕ → DrumLane
+  kicksTo zero = l
+  kicksTo (suc k) = pushKickOf (kicksTo k) bar (g .«drag_s») (kickOf g k)
+
+  -- a bar's kicks, one after another
+  kicks-all : kicksTo (kickCountOf g bar) ≡ layKicksOf l g bar
+  unfolding kicksTo layKicksOf
+  kicks-all = go (g .«ghost_pickup» && endsStatement bar)
+    where
+      two : DrumLane
+      two = pushKickOf (pushKickOf l bar (g .«drag_s») (g .first)) bar (g .«drag_s») (g .second)
+
+      go : (b : Bool) → kicksTo (cond b 3 2) ≡ cond b (pushKickOf two bar (g .«drag_s») ghostKick) two
+      go true = refl
+      go false = refl
 
   pub snares-count : (i : ℕ) → snaresTo l g bar i .count ≡ l .count + i
   unfolding snaresTo pushSnareOf
@@ -66,6 +88,14 @@ module _ (l : DrumLane) (g : Groove) (bar : Bar) where
   hats-most (suc e) = omega (arith, hats-most e, hat-most (hatsTo l g bar e) g bar e)
 
 module _ (l : DrumLane) (g : Groove) (beatS : Float) where
+  -- a bar: its wobble w, then its kicks a, its snares b and its hats c
+  pub bar-laid :
+      (n : ℕ) (w : Drawn) (bar : Bar) (k : ℕ) (a b c : DrumLane)
+      → w ≡ drawOf wobble (l .stream) → bar ≡ barOf n beatS (w .value) → k ≡ kickCountOf g bar
+      → a ≡ kicksTo (drawnOn l (w .stream)) g bar k → b ≡ laySnaresOf a g bar → c ≡ hatsTo b g bar 8 → c ≡ layBarOf l g beatS n
+  unfolding layBarOf
+  bar-laid n w bar k a b c ew ebar ek ea eb ec = rw (ec, eb, ea, ek, kicks-all (drawnOn l (w .stream)) g bar, ebar, ew)
+
   pub bar-least : (n : ℕ) → l .count + 2 ≤ layBarOf l g beatS n .count
   unfolding layBarOf
   bar-least n =

@@ -12,13 +12,13 @@ use Rattle.composer.specs.Spread.{drawOf, jitterOf}
 use Rattle.composer.specs.Timing.{fractOf, swingDelayOf, heldAtZero}
 use Rattle.composer.specs.Drums.Grooves.{ghostKick}
 use Rattle.composer.specs.declared.note.DrumKind.{DrumKind}
-use Rattle.composer.specs.declared.note.Hit.{Hit}
 use Rattle.composer.specs.declared.spread.Spread.{Spread}
 use Rattle.composer.specs.declared.spread.Jitter.{Jitter}
 use Rattle.composer.specs.declared.drums.DrumLane.{DrumLane}
 use Rattle.composer.specs.declared.drums.grooves.Kick.{Kick}
 use Rattle.composer.specs.declared.drums.grooves.Groove.{Groove}
 use Rattle.composer.specs.declared.drums.kit.Bar.{Bar}
+use Rattle.composer.specs.declared.drums.kit.Struck.{Struck}
 
 -- ---- a bar's times
 abbrev pub barAt : Bar → Float → Float
@@ -36,9 +36,9 @@ endsStatement bar = eqb (bar .number % 4) 3
 abbrev pub drawnOn : DrumLane → NoiseStream → DrumLane
 drawnOn l s = record { hits = l .hits; count = l .count; stream = s }
 
--- one hit more
-abbrev pub struckOf : DrumLane → Hit → NoiseStream → DrumLane
-struckOf l hit s = record { hits = set (l .hits) (l .count) hit; count = l .count + 1; stream = s }
+-- one hit more, and the stream after its draws
+abbrev pub struckOf : DrumLane → Struck → DrumLane
+struckOf l d = record { hits = set (l .hits) (l .count) (d .hit); count = l .count + 1; stream = d .stream }
 
 -- 0.95 and 0.1
 abbrev pub hitAccent : Spread
@@ -58,25 +58,37 @@ kickSlotOf bar dragS beat =
 abbrev pub kickBeatOf : Kick → ℕ → Float
 kickBeatOf k number = cond (eqb (number % 2) 0) (k .even) (k .odd)
 
-unfoldable pub pushKickOf : DrumLane → Bar → Float → Kick → DrumLane
-pushKickOf l bar dragS k =
+unfoldable pub kickHitOf : NoiseStream → Bar → Float → Kick → Struck
+kickHitOf s bar dragS k =
     let slot = kickSlotOf bar dragS (kickBeatOf k (bar .number)) in
-    let j = jitterOf kickJitter (l .stream) in
+    let j = jitterOf kickJitter s in
     let a = drawOf hitAccent (j .stream) in
-    struckOf l
-    (record {
-      bar = bar .number;
-      at = heldAtZero (add binary32 slot (j .value));
-      kind = DrumKind.Kick;
-      gain = mul binary32 (mul binary32 (k .gain) (bar .wobble)) (a .value);
-    })
-    (a .stream)
+    record {
+      hit = record {
+        bar = bar .number;
+        at = heldAtZero (add binary32 slot (j .value));
+        kind = DrumKind.Kick;
+        gain = mul binary32 (mul binary32 (k .gain) (bar .wobble)) (a .value);
+      };
+      stream = a .stream;
+    }
+
+unfoldable pub pushKickOf : DrumLane → Bar → Float → Kick → DrumLane
+pushKickOf l bar dragS k = struckOf l (kickHitOf (l .stream) bar dragS k)
 
 -- two kicks, and where a statement ends the ghost kick
 unfoldable pub layKicksOf : DrumLane → Groove → Bar → DrumLane
 layKicksOf l g bar =
     let two = pushKickOf (pushKickOf l bar (g .«drag_s») (g .first)) bar (g .«drag_s») (g .second) in
     cond (g .«ghost_pickup» && endsStatement bar) (pushKickOf two bar (g .«drag_s») ghostKick) two
+
+-- how many kicks the bar has
+abbrev pub kickCountOf : Groove → Bar → ℕ
+kickCountOf g bar = cond (g .«ghost_pickup» && endsStatement bar) 3 2
+
+-- kick k of a bar
+abbrev pub kickOf : Groove → ℕ → Kick
+kickOf g k = cond (eqb k 0) (g .first) (cond (eqb k 1) (g .second) ghostKick)
 
 -- ---- snares
 -- 0.008
@@ -87,18 +99,22 @@ snareDragS = ofBits binary32 0x3c03_126f
 abbrev pub snareJitter : Jitter
 snareJitter = record { early = ofBits binary32 0x3e99_999a; width = ofBits binary32 0x3c03_126f }
 
-unfoldable pub pushSnareOf : DrumLane → Bar → Float → Float → DrumLane
-pushSnareOf l bar beat gain =
-    let j = jitterOf snareJitter (l .stream) in
+unfoldable pub snareHitOf : NoiseStream → Bar → Float → Float → Struck
+snareHitOf s bar beat gain =
+    let j = jitterOf snareJitter s in
     let a = drawOf hitAccent (j .stream) in
-    struckOf l
-    (record {
-      bar = bar .number;
-      at = heldAtZero (add binary32 (add binary32 (barAt bar beat) snareDragS) (j .value));
-      kind = DrumKind.Snare;
-      gain = mul binary32 (mul binary32 gain (bar .wobble)) (a .value);
-    })
-    (a .stream)
+    record {
+      hit = record {
+        bar = bar .number;
+        at = heldAtZero (add binary32 (add binary32 (barAt bar beat) snareDragS) (j .value));
+        kind = DrumKind.Snare;
+        gain = mul binary32 (mul binary32 gain (bar .wobble)) (a .value);
+      };
+      stream = a .stream;
+    }
+
+unfoldable pub pushSnareOf : DrumLane → Bar → Float → Float → DrumLane
+pushSnareOf l bar beat gain = struckOf l (snareHitOf (l .stream) bar beat gain)
 
 -- the first i snares
 unfoldable pub snaresTo : DrumLane → Groove → Bar → ℕ → DrumLane
@@ -123,18 +139,22 @@ hatSlotOf bar swing e =
 abbrev pub hatKindOf : Bool → Bar → ℕ → DrumKind
 hatKindOf openHat bar e = cond (openHat && endsStatement bar && eqb e 7) DrumKind.OpenHat DrumKind.Hat
 
-unfoldable pub pushHatOf : DrumLane → Groove → Bar → ℕ → DrumLane
-pushHatOf l g bar e =
-    let j = jitterOf hatJitter (l .stream) in
+unfoldable pub hatHitOf : NoiseStream → Groove → Bar → ℕ → Struck
+hatHitOf s g bar e =
+    let j = jitterOf hatJitter s in
     let v = drawOf (g .hats .velocity) (j .stream) in
-    struckOf l
-    (record {
-      bar = bar .number;
-      at = heldAtZero (add binary32 (hatSlotOf bar (g .hats .swing) e) (j .value));
-      kind = hatKindOf (g .«open_hat») bar e;
-      gain = mul binary32 (v .value) (bar .wobble);
-    })
-    (v .stream)
+    record {
+      hit = record {
+        bar = bar .number;
+        at = heldAtZero (add binary32 (hatSlotOf bar (g .hats .swing) e) (j .value));
+        kind = hatKindOf (g .«open_hat») bar e;
+        gain = mul binary32 (v .value) (bar .wobble);
+      };
+      stream = v .stream;
+    }
+
+unfoldable pub pushHatOf : DrumLane → Groove → Bar → ℕ → DrumLane
+pushHatOf l g bar e = struckOf l (hatHitOf (l .stream) g bar e)
 
 -- eighth e: a slot that may not strike draws nothing, one that stays silent draws only that
 unfoldable pub layHatOf : DrumLane → Groove → Bar → ℕ → DrumLane

@@ -1,8 +1,8 @@
 -- Each call is its definition. Assumes nothing.
-use Rattle.composer.specs.Drums.Kit.{pushKickOf}
+use Rattle.composer.specs.Drums.Kit.{kickHitOf}
 use borrow.Author.Needs.{needs}
-use Rattle.composer.proofs.drums.kit.push_kick.Statement.{statement}
-use Rattle.composer.proofs.drums.kit.push_kick.Tie as tie
+use Rattle.composer.proofs.drums.kit.kick_hit.Statement.{statement}
+use Rattle.composer.proofs.drums.kit.kick_hit.Tie as tie
 
 kick-beat-requires : tie.Need-kick-beat-requires
 kick-beat-requires c κs = search needs
@@ -19,18 +19,15 @@ held-at-zero-requires c κs = search needs
 draw-requires-2 : tie.Need-draw-requires-2
 draw-requires-2 c κs = search needs
 
-struck-requires : tie.Need-struck-requires
-struck-requires c κs = search needs
-
 returns : tie.Need-returns
-unfolding pushKickOf
+unfolding kickHitOf
 returns c =
     let a = c .before .before .before .before in
     let j = a .before .before .before in
-    rw (c .struck .ensures, a .draw2 .ensures, a .before .held-at-zero .ensures, j .draw .ensures, j .before .kick-slot .ensures, j .before .before .kick-beat .ensures)
+    rw (a .draw2 .ensures, a .before .held-at-zero .ensures, j .draw .ensures, j .before .kick-slot .ensures, j .before .before .kick-beat .ensures)
 
-pub push-kick-spec : {M : Type 1} → statement M
-push-kick-spec =
+pub kick-hit-spec : {M : Type 1} → statement M
+kick-hit-spec =
     tie.close
     (tie.spec
     kick-beat-requires
@@ -38,5 +35,4 @@ push-kick-spec =
     draw-requires
     held-at-zero-requires
     draw-requires-2
-    struck-requires
     returns)

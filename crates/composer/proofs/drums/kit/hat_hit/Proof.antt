@@ -1,8 +1,8 @@
 -- Each call is its definition. Assumes nothing.
-use Rattle.composer.specs.Drums.Kit.{pushHatOf}
+use Rattle.composer.specs.Drums.Kit.{hatHitOf}
 use borrow.Author.Needs.{needs}
-use Rattle.composer.proofs.drums.kit.push_hat.Statement.{statement}
-use Rattle.composer.proofs.drums.kit.push_hat.Tie as tie
+use Rattle.composer.proofs.drums.kit.hat_hit.Statement.{statement}
+use Rattle.composer.proofs.drums.kit.hat_hit.Tie as tie
 
 hat-slot-requires : tie.Need-hat-slot-requires
 hat-slot-requires c κs = search needs
@@ -19,19 +19,16 @@ hat-kind-requires c κs = search needs
 draw-requires-2 : tie.Need-draw-requires-2
 draw-requires-2 c κs = search needs
 
-struck-requires : tie.Need-struck-requires
-struck-requires c κs = search needs
-
 returns : tie.Need-returns
-unfolding pushHatOf
+unfolding hatHitOf
 returns c =
     let v = c .before .before .before in
     let k = v .before .before in
     let j = k .before .before .before in
-    rw (c .struck .ensures, v .draw2 .ensures, k .hat-kind .ensures, k .before .held-at-zero .ensures, j .draw .ensures, j .before .hat-slot .ensures)
+    rw (v .draw2 .ensures, k .hat-kind .ensures, k .before .held-at-zero .ensures, j .draw .ensures, j .before .hat-slot .ensures)
 
-pub push-hat-spec : {M : Type 1} → statement M
-push-hat-spec =
+pub hat-hit-spec : {M : Type 1} → statement M
+hat-hit-spec =
     tie.close
     (tie.spec
     hat-slot-requires
@@ -39,5 +36,4 @@ push-hat-spec =
     held-at-zero-requires
     hat-kind-requires
     draw-requires-2
-    struck-requires
     returns)

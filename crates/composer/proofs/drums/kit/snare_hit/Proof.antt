@@ -1,8 +1,8 @@
 -- Each call is its definition. Assumes nothing.
-use Rattle.composer.specs.Drums.Kit.{pushSnareOf}
+use Rattle.composer.specs.Drums.Kit.{snareHitOf}
 use borrow.Author.Needs.{needs}
-use Rattle.composer.proofs.drums.kit.push_snare.Statement.{statement}
-use Rattle.composer.proofs.drums.kit.push_snare.Tie as tie
+use Rattle.composer.proofs.drums.kit.snare_hit.Statement.{statement}
+use Rattle.composer.proofs.drums.kit.snare_hit.Tie as tie
 
 draw-requires : tie.Need-draw-requires
 draw-requires c κs = search needs
@@ -16,23 +16,19 @@ held-at-zero-requires c κs = search needs
 draw-requires-2 : tie.Need-draw-requires-2
 draw-requires-2 c κs = search needs
 
-struck-requires : tie.Need-struck-requires
-struck-requires c κs = search needs
-
 returns : tie.Need-returns
-unfolding pushSnareOf
+unfolding snareHitOf
 returns c =
     let a = c .before .before .before in
     let t = a .before .before .before in
-    rw (c .struck .ensures, a .draw2 .ensures, a .before .held-at-zero .ensures, t .at .ensures, t .before .draw .ensures)
+    rw (a .draw2 .ensures, a .before .held-at-zero .ensures, t .at .ensures, t .before .draw .ensures)
 
-pub push-snare-spec : {M : Type 1} → statement M
-push-snare-spec =
+pub snare-hit-spec : {M : Type 1} → statement M
+snare-hit-spec =
     tie.close
     (tie.spec
     draw-requires
     at-requires
     held-at-zero-requires
     draw-requires-2
-    struck-requires
     returns)
