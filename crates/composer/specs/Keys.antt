@@ -1,7 +1,7 @@
 -- The keys stage: the comp over each bar's chord. Definitions only.
 use mathlib.Core.Bool.{Bool, cond, _||_}
 use mathlib.Core.List.{List, [], _∷_}
-use Prim.Native.Nat.{ℕ, zero, suc, _+_, _*_, _%_, _≤_, _<_}
+use Prim.Native.Nat.{ℕ, zero, suc, _+_, _*_, _%_}
 use lib.Dec.{eqb}
 use lib.ListN.{getD, set, replicate}
 use lib.Ieee.{Float, binary32, ofBits, add, mul, div}
@@ -22,8 +22,10 @@ use Rattle.composer.specs.declared.style.Comp.{Comp}
 use Rattle.composer.specs.declared.style.Density.{Density}
 use Rattle.composer.specs.declared.style.KeysStyle.{KeysStyle}
 use Rattle.composer.specs.declared.style.Style.{Style}
-use Rattle.composer.specs.declared.keys.Shell.{Shell}
+use Rattle.composer.specs.declared.keys.Dyad.{Dyad}
 use Rattle.composer.specs.declared.keys.KeysLane.{KeysLane}
+use Rattle.composer.specs.declared.keys.Shell.{Shell}
+use Rattle.composer.specs.declared.keys.Tone.{Tone}
 
 -- ---- the shell: third and seventh, found from the root
 -- a note's class lies a or b above the root's
@@ -41,11 +43,6 @@ shellOf c = record { third = findOf (c .«root_pc») 3 4 (c .notes); seventh = f
 -- the seventh, or the ninth above it
 abbrev pub upperOf : Bool → ℕ → ℕ → ℕ
 upperOf ninth seventh root = cond ninth (inOctaveFrom seventh ((root + 2) % 12)) seventh
-
--- what a stroke asks of a chord: its root is a class, and an octave fits above each note
-pub record Reachable (c : Chord) : Type 0 where
-  pub root-lt : c .«root_pc» < 12
-  pub note-le : (k : ℕ) → getD (c .notes) k 0 ≤ 244
 
 -- ---- the knobs
 -- 0.53
@@ -90,23 +87,33 @@ gridAt bar e beatS =
     let at = add binary32 (mul binary32 (f32Of bar) (barSOf beatS)) (mul binary32 (f32Of e) eighth) in
     cond (eqb (e % 2) 1) (add binary32 at (swingDelayOf swingKeys eighth)) at
 
--- ---- a stroke: the ninth's chance, the velocity and the roll are drawn, or the pick and the velocity
-unfoldable pub shellStrokeOf : KeysLane → Chord → KeysStyle → ℕ → Float → KeysLane
-shellStrokeOf l c k bar at =
-    let shell = shellOf c in
-    let ninth = chanceOf (l .stream) ninthP in
-    let high = upperOf (ninth .value) (shell .seventh) (c .«root_pc») in
+-- ---- a stroke by itself: the ninth's chance, the velocity and the roll are drawn, or the pick and the velocity
+abbrev pub dyadOf : NoiseStream → Shell → ℕ → KeysStyle → ℕ → Float → Dyad
+dyadOf s shell root k bar at =
+    let ninth = chanceOf s ninthP in
+    let high = upperOf (ninth .value) (shell .seventh) root in
     let vel = drawOf (k .velocity) (ninth .stream) in
     let rolled = afterOf roll at (vel .stream) in
     let lower : Note = record { bar = bar; at = at; midi = shell .third; vel = vel .value; dur = k .dur } in
     let higher : Note = record { bar = bar; at = rolled .value; midi = high; vel = mul binary32 (vel .value) rolledSofter; dur = k .dur } in
-    movedOf (pushOf (pushOf l lower) higher) (rolled .stream)
+    record { lower = lower; higher = higher; stream = rolled .stream }
+
+abbrev pub toneOf : NoiseStream → Chord → KeysStyle → ℕ → Float → Tone
+toneOf s c k bar at =
+    let p = pickOf s 4 in
+    let vel = drawOf (k .velocity) (p .stream) in
+    record { note = record { bar = bar; at = at; midi = getD (c .notes) (p .value) 0; vel = vel .value; dur = k .dur }; stream = vel .stream }
+
+-- ---- a stroke on the lane
+unfoldable pub shellStrokeOf : KeysLane → Chord → KeysStyle → ℕ → Float → KeysLane
+shellStrokeOf l c k bar at =
+    let dyad = dyadOf (l .stream) (shellOf c) (c .«root_pc») k bar at in
+    movedOf (pushOf (pushOf l (dyad .lower)) (dyad .higher)) (dyad .stream)
 
 unfoldable pub singleStrokeOf : KeysLane → Chord → KeysStyle → ℕ → Float → KeysLane
 singleStrokeOf l c k bar at =
-    let p = pickOf (l .stream) 4 in
-    let vel = drawOf (k .velocity) (p .stream) in
-    movedOf (pushOf l (record { bar = bar; at = at; midi = getD (c .notes) (p .value) 0; vel = vel .value; dur = k .dur })) (vel .stream)
+    let tone = toneOf (l .stream) c k bar at in
+    movedOf (pushOf l (tone .note)) (tone .stream)
 
 abbrev pub strokeBy : Comp → KeysLane → Chord → KeysStyle → ℕ → Float → KeysLane
 strokeBy Comp.Shell l c k bar at = shellStrokeOf l c k bar at

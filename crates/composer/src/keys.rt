@@ -1,8 +1,8 @@
 // The keys stage: the comp over each bar's chord.
 ghost use mathlib.Core.Path.{_≡_};
-ghost use Prim.Native.Nat.{_+_, _≤_, _<_};
+ghost use Prim.Native.Nat.{_≤_, _<_};
 ghost use Rattle.composer.specs.Harmony.{Tonal};
-ghost use Rattle.composer.specs.Keys.{soundsOf, findOf, shellOf, upperOf, Reachable, densityDrawOf, emptyOf, movedOf, pushOf, gridAt, shellStrokeOf, singleStrokeOf, strokeOf, eighthOf, barOf, keysOf};
+ghost use Rattle.composer.specs.Keys.{soundsOf, findOf, shellOf, upperOf, densityDrawOf, gridAt, dyadOf, toneOf, keysOf};
 use crate::chord::Chord;
 use crate::chord::OCTAVE;
 use crate::chord::in_octave_from;
@@ -64,6 +64,19 @@ pub struct Shell {
 pub struct KeysLane {
     pub notes: [Note; 128],
     pub count: usize,
+    pub stream: NoiseStream,
+}
+
+// A struck shell, and the stream after its draws.
+pub struct Dyad {
+    pub lower: Note,
+    pub higher: Note,
+    pub stream: NoiseStream,
+}
+
+// A struck chord tone, and the stream after its draws.
+pub struct Tone {
+    pub note: Note,
     pub stream: NoiseStream,
 }
 
@@ -130,43 +143,6 @@ fn density_draw(d: Density, s: NoiseStream) -> Drawn
     }
 }
 
-// A lane with no notes.
-fn empty(s: NoiseStream) -> KeysLane
-    ensures { λ r. ⌜ r ≡ emptyOf s ⌝ }
-{
-    let z = NO_NOTE;
-    KeysLane {
-        notes: [z; 128],
-        count: 0,
-        stream: s,
-    }
-}
-
-// The lane at a later stream.
-fn moved(l: KeysLane, s: NoiseStream) -> KeysLane
-    ensures { λ r. ⌜ r ≡ movedOf l s ⌝ }
-{
-    let mut out = l;
-    out.stream = s;
-    out
-}
-
-// The lane with one note more.
-fn push(l: KeysLane, note: Note) -> KeysLane
-    requires { ⌜ l .count < 128 ⌝ }
-    ensures { λ r. ⌜ r ≡ pushOf l note ⌝ }
-{
-    let at = l.count;
-    let mut notes = l.notes;
-    notes[at] = note;
-    let s = l.stream;
-    KeysLane {
-        notes: notes,
-        count: at + 1,
-        stream: s,
-    }
-}
-
 // When an eighth of a bar begins: an off-eighth swings.
 fn grid_at(bar: u8, e: u8, beat_s: f32) -> f32
     ensures { λ r. ⌜ r ≡ gridAt bar e «beat_s» ⌝ }
@@ -181,23 +157,15 @@ fn grid_at(bar: u8, e: u8, beat_s: f32) -> f32
     }
 }
 
-// A shell from `at` on, its upper voice rolled: a hand rolls the dyad, a sequencer stamps it.
-fn shell_stroke(l: KeysLane, chord: Chord, k: KeysStyle, bar: u8, at: f32) -> KeysLane
-    requires { ⌜ l .count + 2 ≤ 128 ⌝ }
-    requires { ⌜ Reachable chord ⌝ }
-    ensures { λ r. ⌜ r ≡ shellStrokeOf l chord k bar at ⌝ }
+// The shell at `at`, its upper voice rolled: a hand rolls the dyad, a sequencer stamps it.
+fn dyad_at(s: NoiseStream, shell: Shell, root_pc: u8, k: KeysStyle, bar: u8, at: f32) -> Dyad
+    requires { ⌜ (shell .seventh ≤ 244) × («root_pc» < 12) ⌝ }
+    ensures { λ r. ⌜ r ≡ dyadOf s shell «root_pc» k bar at ⌝ }
 {
-    let shell = shell_of(chord);
-    let s = l.stream;
     let ninth = chance(s, NINTH_P);
-    let high = upper(ninth.value, shell.seventh, chord.root_pc);
-    let sn = ninth.stream;
-    let spread = k.velocity;
-    let vel = spread.draw(sn);
-    let sv = vel.stream;
-    let roll = ROLL;
-    let rolled = roll.after(at, sv);
-    let sr = rolled.stream;
+    let high = upper(ninth.value, shell.seventh, root_pc);
+    let vel = k.velocity.draw(ninth.stream);
+    let rolled = ROLL.after(at, vel.stream);
     let lower = Note {
         bar: bar,
         at: at,
@@ -212,24 +180,22 @@ fn shell_stroke(l: KeysLane, chord: Chord, k: KeysStyle, bar: u8, at: f32) -> Ke
         vel: vel.value * ROLLED_SOFTER,
         dur: k.dur,
     };
-    let one = push(l, lower);
-    let two = push(one, higher);
-    moved(two, sr)
+    let next = rolled.stream;
+    Dyad {
+        lower: lower,
+        higher: higher,
+        stream: next,
+    }
 }
 
 // One chord tone at `at`.
-fn single_stroke(l: KeysLane, chord: Chord, k: KeysStyle, bar: u8, at: f32) -> KeysLane
-    requires { ⌜ l .count < 128 ⌝ }
-    ensures { λ r. ⌜ r ≡ singleStrokeOf l chord k bar at ⌝ }
+fn tone_at(s: NoiseStream, chord: Chord, k: KeysStyle, bar: u8, at: f32) -> Tone
+    ensures { λ r. ⌜ r ≡ toneOf s chord k bar at ⌝ }
 {
-    let s = l.stream;
     let p = pick(s, 4);
-    let sp = p.stream;
     let notes = chord.notes;
     let midi = notes[p.value as usize];
-    let spread = k.velocity;
-    let vel = spread.draw(sp);
-    let sv = vel.stream;
+    let vel = k.velocity.draw(p.stream);
     let note = Note {
         bar: bar,
         at: at,
@@ -237,73 +203,15 @@ fn single_stroke(l: KeysLane, chord: Chord, k: KeysStyle, bar: u8, at: f32) -> K
         vel: vel.value,
         dur: k.dur,
     };
-    let one = push(l, note);
-    moved(one, sv)
-}
-
-// A stroke on an eighth, behind the grid by its lag.
-fn stroke(l: KeysLane, chord: Chord, k: KeysStyle, bar: u8, grid: f32) -> KeysLane
-    requires { ⌜ l .count + 2 ≤ 128 ⌝ }
-    requires { ⌜ Reachable chord ⌝ }
-    ensures { λ r. ⌜ r ≡ strokeOf l chord k bar grid ⌝ }
-{
-    let s = l.stream;
-    let spread = KEYS_LAG;
-    let lag = spread.draw(s);
-    let at = grid + lag.value;
-    let sl = lag.stream;
-    let next = moved(l, sl);
-    let comp = k.comp;
-    match comp {
-        Comp::Shell => shell_stroke(next, chord, k, bar, at),
-        Comp::Single => single_stroke(next, chord, k, bar, at),
+    let next = vel.stream;
+    Tone {
+        note: note,
+        stream: next,
     }
 }
 
-// An eighth: struck with the chance `density`.
-fn eighth(
-    l: KeysLane,
-    chord: Chord,
-    k: KeysStyle,
-    density: f32,
-    bar: u8,
-    e: u8,
-    beat_s: f32,
-) -> KeysLane
-    requires { ⌜ l .count + 2 ≤ 128 ⌝ }
-    requires { ⌜ Reachable chord ⌝ }
-    ensures { λ r. ⌜ r ≡ eighthOf l chord k density bar e «beat_s» ⌝ }
-    ensures { λ r. ⌜ r .count ≤ l .count + 2 ⌝ }
-{
-    let s = l.stream;
-    let d = chance(s, density);
-    let sd = d.stream;
-    let next = moved(l, sd);
-    if d.value {
-        let grid = grid_at(bar, e, beat_s);
-        stroke(next, chord, k, bar, grid)
-    } else {
-        next
-    }
-}
-
-// The eighths of a bar.
-fn bar_of(l: KeysLane, chord: Chord, k: KeysStyle, density: f32, bar: u8, beat_s: f32) -> KeysLane
-    requires { ⌜ l .count + 16 ≤ 128 ⌝ }
-    requires { ⌜ Reachable chord ⌝ }
-    ensures { λ r. ⌜ r ≡ barOf l chord k density bar «beat_s» ⌝ }
-    ensures { λ r. ⌜ r .count ≤ l .count + 16 ⌝ }
-{
-    let mut out = l;
-    let mut e: u8 = 0;
-    while e < 8 {
-        out = eighth(out, chord, k, density, bar, e, beat_s);
-        e += 1;
-    }
-    out
-}
-
-// The comp of all eight bars.
+// The comp of all eight bars: each eighth is struck with the density's chance. The notes stay in one
+// array of this function's own, since a lane that is passed on is copied whole.
 pub(crate) fn keys(s: NoiseStream, h: Harmony, style: Style, beat_s: f32) -> KeysLane
     requires { ⌜ Tonal h ⌝ }
     ensures { λ r. ⌜ r ≡ keysOf s h style «beat_s» ⌝ }
@@ -311,14 +219,44 @@ pub(crate) fn keys(s: NoiseStream, h: Harmony, style: Style, beat_s: f32) -> Key
     let k = keys_style(style);
     let d = k.density;
     let density = density_draw(d, s);
-    let sd = density.stream;
-    let p = density.value;
-    let mut out = empty(sd);
-    let mut b: u8 = 0;
-    while b < 8 {
+    let mut notes = [NO_NOTE; 128];
+    let mut count: usize = 0;
+    let mut stream = density.stream;
+    for b in 0..8u8 {
         let chord = h.bars[b as usize];
-        out = bar_of(out, chord, k, p, b, beat_s);
-        b += 1;
+        let shell = shell_of(chord);
+        for e in 0..8u8 {
+            let struck = chance(stream, density.value);
+            stream = struck.stream;
+            if !struck.value {
+                continue;
+            }
+            let lag = KEYS_LAG.draw(stream);
+            let at = grid_at(b, e, beat_s) + lag.value;
+            let comp = k.comp;
+            match comp {
+                Comp::Shell => {
+                    let dyad = dyad_at(lag.stream, shell, chord.root_pc, k, b, at);
+                    let lower = dyad.lower;
+                    let higher = dyad.higher;
+                    notes[count] = lower;
+                    notes[count + 1] = higher;
+                    count += 2;
+                    stream = dyad.stream;
+                }
+                Comp::Single => {
+                    let tone = tone_at(lag.stream, chord, k, b, at);
+                    let note = tone.note;
+                    notes[count] = note;
+                    count += 1;
+                    stream = tone.stream;
+                }
+            }
+        }
     }
-    out
+    KeysLane {
+        notes: notes,
+        count: count,
+        stream: stream,
+    }
 }

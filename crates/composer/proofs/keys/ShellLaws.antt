@@ -12,7 +12,7 @@ use mir.Facts.{and-yes}
 use Rattle.laws.proofs.Runs.{every, every-at}
 use Rattle.composer.specs.Chord.{degreeAt, pastChord, voicedOf}
 use Rattle.composer.specs.Harmony.{Tonal}
-use Rattle.composer.specs.Keys.{soundsOf, findOf, shellOf, Reachable}
+use Rattle.composer.specs.Keys.{soundsOf, findOf, shellOf}
 use Rattle.composer.specs.declared.chord.Chord.{Chord}
 use Rattle.composer.specs.declared.harmony.Harmony.{Harmony}
 use Rattle.composer.proofs.ChordLaws.{degree-small}
@@ -40,6 +40,11 @@ find-le : (root a b top : ℕ) (notes : List ℕ) → ((k : ℕ) → getD notes 
 unfolding findOf
 find-le root a b top [] h = omega arith
 find-le root a b top (n ∷ ns) h = chosen-le (soundsOf root a b n) n (findOf root a b ns) top (h 0) (find-le root a b top ns (λ k. h (suc k)))
+
+-- what a stroke asks of a chord: its root is a class, and an octave fits above each note
+pub record Reachable (c : Chord) : Type 0 where
+  pub root-lt : c .«root_pc» < 12
+  pub note-le : (k : ℕ) → getD (c .notes) k 0 ≤ 244
 
 pub seventh-le : (c : Chord) → Reachable c → shellOf c .seventh ≤ 244
 unfolding shellOf

@@ -1,0 +1,27 @@
+-- The ninth's chance, the velocity and the roll, in this order. Assumes nothing.
+use borrow.Author.Needs.{needs}
+use Rattle.composer.proofs.keys.dyad_at.Statement.{statement}
+use Rattle.composer.proofs.keys.dyad_at.Tie as tie
+
+chance-requires : tie.Need-chance-requires
+chance-requires c κs = search needs
+
+upper-requires : tie.Need-upper-requires
+upper-requires c κs = search needs
+
+draw-requires : tie.Need-draw-requires
+draw-requires c κs = search needs
+
+after-requires : tie.Need-after-requires
+after-requires c κs = search needs
+
+returns : tie.Need-returns
+returns c =
+    let a = c .before .before in
+    let d = a .before in
+    let u = d .before in
+    rw (a .after .ensures, d .draw .ensures, u .upper .ensures, u .before .chance .ensures)
+
+pub dyad-at-spec : {M : Type 1} → statement M
+dyad-at-spec =
+    tie.close (tie.spec chance-requires upper-requires draw-requires after-requires returns)
