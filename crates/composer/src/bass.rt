@@ -1,13 +1,10 @@
 // The bass stage: a rhythm for each bar of the loop, then the notes of every bar.
 ghost use mathlib.Core.Path.{_≡_};
-ghost use Prim.Native.Nat.{_<_};
 ghost use Rattle.composer.specs.Harmony.{Tonal};
-ghost use Rattle.composer.specs.Bass.{partOf, bassOf};
+ghost use Rattle.composer.specs.Bass.{bassOf};
 use crate::bass::line::BarPart;
-use crate::bass::line::play_bar;
-use crate::bass::rhythm::Steps;
+use crate::bass::line::played_note;
 use crate::bass::rhythm::bass_rhythms;
-use crate::chord::Chord;
 use crate::harmony::Harmony;
 use crate::note::NO_NOTE;
 use crate::note::Note;
@@ -25,25 +22,6 @@ pub struct BassLane {
     pub stream: NoiseStream,
 }
 
-// What bar b is played from. Bar 0 follows bar 7.
-fn part_of(chords: [Chord; 8], rhythms: [Steps; 8], b: usize) -> BarPart
-    requires { ⌜ b < 8 ⌝ }
-    ensures { λ r. ⌜ r ≡ partOf chords rhythms b ⌝ }
-{
-    let next = (b + 1) % 8;
-    let chord = chords[b];
-    let next_chord = chords[next];
-    let steps = rhythms[b];
-    let next_steps = rhythms[next];
-    BarPart {
-        bar: b as u8,
-        root_pc: chord.root_pc,
-        next_pc: next_chord.root_pc,
-        steps: steps,
-        next_step: next_steps.at[0],
-    }
-}
-
 // Every bar's rhythm before any note, since a bar's last note is held by where the next bar starts.
 pub(crate) fn bass(s: NoiseStream, h: Harmony, style: Style, beat_s: f32) -> BassLane
     requires { ⌜ Tonal h ⌝ }
@@ -53,15 +31,32 @@ pub(crate) fn bass(s: NoiseStream, h: Harmony, style: Style, beat_s: f32) -> Bas
     let knobs = bass_style(style);
     let r = bass_rhythms(s);
     let rhythms = r.bars;
-    let next = r.stream;
-    let mut out = BassLane {
-        notes: [NO_NOTE; 104],
-        count: 0,
-        stream: next,
-    };
+    let mut notes = [NO_NOTE; 104];
+    let mut count: usize = 0;
+    let mut stream = r.stream;
     for b in 0..8usize {
-        let part = part_of(chords, rhythms, b);
-        out = play_bar(out, part, knobs, beat_s);
+        // Bar 0 follows bar 7.
+        let next = (b + 1) % 8;
+        let steps = rhythms[b];
+        let next_steps = rhythms[next];
+        let part = BarPart {
+            bar: b as u8,
+            root_pc: chords[b].root_pc,
+            next_pc: chords[next].root_pc,
+            steps: steps,
+            next_step: next_steps.at[0],
+        };
+        for i in 0..steps.n {
+            let d = played_note(stream, part, knobs, beat_s, i);
+            let note = d.note;
+            notes[count] = note;
+            count += 1;
+            stream = d.stream;
+        }
     }
-    out
+    BassLane {
+        notes: notes,
+        count: count,
+        stream: stream,
+    }
 }

@@ -1,7 +1,8 @@
 -- What each bar asks of its part, and that the notes of eight bars fit. Assumes nothing.
-use mathlib.Core.Path.{_≡_}
+use mathlib.Core.Path.{_≡_, sym, ap, _∙_}
 use Prim.Native.Nat.{ℕ, zero, suc, _+_, _*_, _%_, _≤_, _<_}
 use mathlib.Core.List.{List}
+use native.Mathlib.Numerals.{add-one}
 use native.Mathlib.Omega.{arith}
 use lib.ListN.{getD}
 use lib.Ieee.{Float}
@@ -10,7 +11,8 @@ use Rattle.composer.specs.Chord.{pastChord}
 use Rattle.composer.specs.Harmony.{Tonal}
 use Rattle.composer.specs.Bass.{partOf, barsPlayed}
 use Rattle.composer.specs.Bass.Rhythm.{Rising, pastSteps, bassRhythmsOf}
-use Rattle.composer.specs.Bass.Line.{Playable}
+use Rattle.composer.specs.Bass.Line.{barPlayed, Playable}
+use Rattle.composer.specs.declared.chord.Chord.{Chord}
 use Rattle.composer.specs.declared.harmony.Harmony.{Harmony}
 use Rattle.composer.specs.declared.style.BassStyle.{BassStyle}
 use Rattle.composer.specs.declared.bass.BassLane.{BassLane}
@@ -53,3 +55,11 @@ module _ (h : Harmony) (tonal : Tonal h) where
       turn-asks b k e =
           let p = part-playable b k in
           (p, omega (arith, bars-count b (omega arith), p .steps .few))
+
+-- a bar played to its end is a bar more
+pub bars-on : (chords : List Chord) (rs : List Steps) (style : BassStyle) (beatS : Float) (l : BassLane) (b : ℕ) (m : BassLane)
+    → barsPlayed chords rs style beatS l b ≡ m → (i : ℕ) → i ≡ partOf chords rs b .steps .n → (n : BassLane)
+    → barPlayed m (partOf chords rs b) style beatS i ≡ n → barsPlayed chords rs style beatS l (b + 1) ≡ n
+unfolding barsPlayed
+bars-on chords rs style beatS l b m so-far i ends n in-bar =
+    rw (add-one, so-far) (ap (barPlayed m (partOf chords rs b) style beatS) (sym ends) ∙ in-bar)

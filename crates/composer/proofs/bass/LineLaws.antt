@@ -3,22 +3,24 @@
 use mathlib.Core.Path.{_≡_, refl}
 use mathlib.Core.Bool.{Bool, true, false, cond, _&&_}
 use Prim.Native.Nat.{ℕ, zero, suc, _+_, _≤_, _<_}
+use native.Mathlib.Numerals.{add-one}
 use native.Mathlib.Omega.{arith}
 use lib.Dec.{eqb, ltb}
-use lib.ListN.{getD, length}
+use lib.ListN.{getD, set, length}
 use lib.Ieee.{Float}
 use Rattle.laws.proofs.Bools.{either}
 use Rattle.laws.proofs.Lanes.{Grown, grown-none, grown-push, grown-then}
 use Rattle.streams.specs.Draw.{chanceOf}
 use Rattle.streams.specs.declared.stream.NoiseStream.{NoiseStream}
 use Rattle.composer.specs.Note.{pastNote}
-use Rattle.composer.specs.Bass.Line.{struckOf, rootNoteOf, pickupNoteOf, laterPitchOf, laterNoteOf, pickupDrawnOf, noteDrawnOf, onsetOf, gapOf, heldOf, playOf, barPlayed, Playable}
+use Rattle.composer.specs.Bass.Line.{struckOf, rootNoteOf, pickupNoteOf, laterPitchOf, laterNoteOf, pickupDrawnOf, noteDrawnOf, onsetOf, gapOf, heldOf, playedNoteOf, playOf, barPlayed, Playable}
 use Rattle.composer.specs.Bass.Promise.{Sounds, is-root, is-fifth, is-under}
 use Rattle.composer.specs.declared.note.Note.{Note}
 use Rattle.composer.specs.declared.style.BassStyle.{BassStyle}
 use Rattle.composer.specs.declared.bass.BassLane.{BassLane}
 use Rattle.composer.specs.declared.bass.line.BarPart.{BarPart}
 use Rattle.composer.specs.declared.bass.line.Strike.{Strike}
+use Rattle.composer.specs.declared.bass.line.PlayedNote.{PlayedNote}
 
 -- a note of the bar that is played from p
 abbrev pub NoteOf : BarPart → Note → Type 0
@@ -55,7 +57,7 @@ module _ (p : BarPart) (playable : Playable p) (style : BassStyle) where
 
   play-grown : (l : BassLane) (beatS : Float) (i : ℕ) → l .count < length (l .notes)
       → Grown pastNote (NoteOf p) (l .notes) (playOf l p style beatS i .notes) (l .count) (playOf l p style beatS i .count)
-  unfolding playOf
+  unfolding playOf playedNoteOf
   play-grown l beatS i room =
       let on = onsetOf beatS (p .bar) (getD (p .steps .at) i 0) in
       let d = noteDrawnOf (l .stream) on p style i in
@@ -67,6 +69,12 @@ module _ (l : BassLane) (p : BarPart) (style : BassStyle) (beatS : Float) where
   unfolding barPlayed playOf
   bar-count zero = omega arith
   bar-count (suc i) = omega (arith, bar-count i)
+
+  -- a note more
+  pub bar-on : (i : ℕ) (m : BassLane) (d : PlayedNote) → barPlayed l p style beatS i ≡ m → d ≡ playedNoteOf (m .stream) p style beatS i
+      → barPlayed l p style beatS (i + 1) ≡ record { notes = set (m .notes) (m .count) (d .note); count = m .count + 1; stream = d .stream }
+  unfolding barPlayed playOf
+  bar-on i m d so-far drawn = rw (add-one, so-far, ← drawn)
 
   pub bar-grown : Playable p → (i : ℕ) → l .count + i ≤ length (l .notes)
       → Grown pastNote (NoteOf p) (l .notes) (barPlayed l p style beatS i .notes) (l .count) (barPlayed l p style beatS i .count)

@@ -5,6 +5,7 @@ use mathlib.Core.Bool.{Bool, true, false, cond}
 use mathlib.Core.List.{List}
 use Prim.Native.Nat.{ℕ, zero, suc, _+_, _-_, _≤_, _<_}
 use native.Mathlib.Nat.{eq-or-lt-of-le, le-of-suc-le-suc}
+use native.Mathlib.Numerals.{add-one}
 use native.Mathlib.Omega.{arith}
 use lib.ListN.{getD, set, length, replicate, length-set}
 use lib.Seq.{getD-set-same, getD-set-other}
@@ -12,6 +13,7 @@ use lib.Ieee.{Float, binary32, sub, div}
 use Rattle.laws.proofs.Bools.{either}
 use Rattle.streams.specs.Draw.{chanceOf}
 use Rattle.streams.specs.declared.stream.NoiseStream.{NoiseStream}
+use Rattle.streams.specs.declared.draw.ChanceDraw.{ChanceDraw}
 use Rattle.composer.specs.Bass.Rhythm.{stepP, firstBeatSum, rootFrom, rootStepOf, moreSteps, oneStepOf, stepsTo, rootAlone, bassRhythmOf, noSteps, pastSteps, oneRhythmOf, rhythmsTo, bassRhythmsOf, Rising}
 use Rattle.composer.specs.declared.bass.rhythm.Steps.{Steps}
 use Rattle.composer.specs.declared.bass.rhythm.RootDraw.{RootDraw}
@@ -42,7 +44,7 @@ module _ (s : NoiseStream) (left : Float) where
   unfolding rootFrom
   root-last i e = rw e
 
-root-le : (s : NoiseStream) (left : Float) (i more : ℕ) → rootFrom s left i more .step ≤ i + more
+pub root-le : (s : NoiseStream) (left : Float) (i more : ℕ) → rootFrom s left i more .step ≤ i + more
 unfolding rootFrom
 root-le s left i zero = omega arith
 root-le s left i (suc more) =
@@ -113,6 +115,27 @@ module _ (d : StepsDraw) (root : Rising (d .steps) 4) (alone : d .steps .n ≡ 1
       rising-wider (suc i + 4)
       (rising-on (chanceOf (stepsTo d i .stream) (stepP (i + 4)) .value) (stepsTo d i .steps) (i + 4) (steps-rising i (omega arith)) (omega (arith, steps-few i)))
       (omega arith)
+
+-- ---- a turn of the loop over the later steps: what is drawn, and the steps after it
+one-sounds : (t : Steps) (s : NoiseStream) (step : ℕ) (c : ChanceDraw) → c ≡ chanceOf s (stepP step) → c .value ≡ true
+    → oneStepOf (record { steps = t; stream = s }) step ≡ record { steps = moreSteps t step; stream = c .stream }
+unfolding oneStepOf
+one-sounds t s step c drawn v = rw (← drawn, v)
+
+one-rests : (t : Steps) (s : NoiseStream) (step : ℕ) (c : ChanceDraw) → c ≡ chanceOf s (stepP step) → c .value ≡ false
+    → oneStepOf (record { steps = t; stream = s }) step ≡ record { steps = t; stream = c .stream }
+unfolding oneStepOf
+one-rests t s step c drawn v = rw (← drawn, v)
+
+module _ (d : StepsDraw) (i : ℕ) (t : Steps) (s : NoiseStream) (c : ChanceDraw) (so-far : stepsTo d i ≡ record { steps = t; stream = s })
+    (drawn : c ≡ chanceOf s (stepP (i + 4))) where
+  pub turn-sounds : c .value ≡ true → stepsTo d (i + 1) ≡ record { steps = moreSteps t (i + 4); stream = c .stream }
+  unfolding stepsTo
+  turn-sounds v = rw (add-one, so-far) (one-sounds t s (i + 4) c drawn v)
+
+  pub turn-rests : c .value ≡ false → stepsTo d (i + 1) ≡ record { steps = t; stream = c .stream }
+  unfolding stepsTo
+  turn-rests v = rw (add-one, so-far) (one-rests t s (i + 4) c drawn v)
 
 root-rising : (r : RootDraw) → r .step < 4 → Rising (rootAlone r .steps) 4
 root-rising r h = record {

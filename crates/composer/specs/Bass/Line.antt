@@ -19,6 +19,7 @@ use Rattle.composer.specs.declared.bass.BassLane.{BassLane}
 use Rattle.composer.specs.declared.bass.rhythm.Steps.{Steps}
 use Rattle.composer.specs.declared.bass.line.BarPart.{BarPart}
 use Rattle.composer.specs.declared.bass.line.Strike.{Strike}
+use Rattle.composer.specs.declared.bass.line.PlayedNote.{PlayedNote}
 
 -- ---- the constants: lag 0.014 and 0.010, a later note 0.14 softer; pickup's lag 0.012 and 0.008, its velocity 0.34 and 0.06
 abbrev pub bassLag : Spread
@@ -105,15 +106,20 @@ heldOf beatS gap at =
     cond (lt a b) a b
 
 -- ---- the bar
+-- note i as it sounds
+unfoldable pub playedNoteOf : NoiseStream → BarPart → BassStyle → Float → ℕ → PlayedNote
+playedNoteOf s p style beatS i =
+    let d = noteDrawnOf s (onsetOf beatS (p .bar) (getD (p .steps .at) i 0)) p style i in
+    record {
+      note = record { bar = p .bar; at = d .at; midi = d .midi; vel = d .vel; dur = heldOf beatS (gapOf p i) (d .at) };
+      stream = d .stream;
+    }
+
 -- one note more
 unfoldable pub playOf : BassLane → BarPart → BassStyle → Float → ℕ → BassLane
 playOf l p style beatS i =
-    let d = noteDrawnOf (l .stream) (onsetOf beatS (p .bar) (getD (p .steps .at) i 0)) p style i in
-    record {
-      notes = set (l .notes) (l .count) (record { bar = p .bar; at = d .at; midi = d .midi; vel = d .vel; dur = heldOf beatS (gapOf p i) (d .at) });
-      count = l .count + 1;
-      stream = d .stream;
-    }
+    let d = playedNoteOf (l .stream) p style beatS i in
+    record { notes = set (l .notes) (l .count) (d .note); count = l .count + 1; stream = d .stream }
 
 -- the bar's first i notes
 unfoldable pub barPlayed : BassLane → BarPart → BassStyle → Float → ℕ → BassLane

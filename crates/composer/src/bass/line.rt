@@ -1,8 +1,7 @@
 // A bar's bass notes: the root on its first step, then the root or its fifth, and a pickup into the next bar.
 ghost use mathlib.Core.Path.{_≡_};
-ghost use Prim.Native.Nat.{_+_, _≤_, _<_};
-ghost use Rattle.composer.specs.Bass.Line.{bassPitchOf, struckOf, rootNoteOf, pickupNoteOf, laterPitchOf, laterNoteOf, endsLate, pickupDrawnOf, noteDrawnOf, gapOf, onsetOf, heldOf, playOf, barPlayed, Playable};
-use crate::bass::BassLane;
+ghost use Prim.Native.Nat.{_≤_, _<_};
+ghost use Rattle.composer.specs.Bass.Line.{bassPitchOf, struckOf, rootNoteOf, pickupNoteOf, laterPitchOf, laterNoteOf, endsLate, pickupDrawnOf, noteDrawnOf, gapOf, onsetOf, heldOf, playedNoteOf, Playable};
 use crate::bass::rhythm::Steps;
 use crate::chord::FIFTH;
 use crate::chord::in_octave_from;
@@ -54,6 +53,12 @@ pub struct Strike {
     pub at: f32,
     pub midi: u8,
     pub vel: f32,
+    pub stream: NoiseStream,
+}
+
+// A note as played, and the stream after its draws.
+pub struct PlayedNote {
+    pub note: Note,
     pub stream: NoiseStream,
 }
 
@@ -181,11 +186,10 @@ fn gap(p: BarPart, i: usize) -> u8
     ensures { λ r. ⌜ r ≡ gapOf p i ⌝ }
 {
     let steps = p.steps;
-    let at = steps.at;
     if i + 1 < steps.n {
-        at[i + 1] - at[i]
+        steps.at[i + 1] - steps.at[i]
     } else {
-        16 + p.next_step - at[i]
+        16 + p.next_step - steps.at[i]
     }
 }
 
@@ -210,21 +214,24 @@ fn held(beat_s: f32, gap: u8, at: f32) -> f32
     if a < b { a } else { b }
 }
 
-// One note more.
-fn play(l: BassLane, p: BarPart, style: BassStyle, beat_s: f32, i: usize) -> BassLane
+// Note i of a bar as it sounds.
+pub(crate) fn played_note(
+    s: NoiseStream,
+    p: BarPart,
+    style: BassStyle,
+    beat_s: f32,
+    i: usize,
+) -> PlayedNote
     requires { ⌜ Playable p ⌝ }
-    requires { ⌜ (i < p .steps .n) × (l .count < 104) ⌝ }
-    ensures { λ r. ⌜ r ≡ playOf l p style «beat_s» i ⌝ }
+    requires { ⌜ i < p .steps .n ⌝ }
+    ensures { λ r. ⌜ r ≡ playedNoteOf s p style «beat_s» i ⌝ }
 {
     let steps = p.steps;
     let on = onset(beat_s, p.bar, steps.at[i]);
-    let s = l.stream;
     let d = note_drawn(s, on, p, style, i);
     let g = gap(p, i);
     let dur = held(beat_s, g, d.at);
-    let mut notes = l.notes;
-    let n = l.count;
-    notes[n] = Note {
+    let note = Note {
         bar: p.bar,
         at: d.at,
         midi: d.midi,
@@ -232,24 +239,8 @@ fn play(l: BassLane, p: BarPart, style: BassStyle, beat_s: f32, i: usize) -> Bas
         dur: dur,
     };
     let next = d.stream;
-    BassLane {
-        notes: notes,
-        count: n + 1,
+    PlayedNote {
+        note: note,
         stream: next,
     }
-}
-
-// A bar's notes.
-pub(crate) fn play_bar(l: BassLane, p: BarPart, style: BassStyle, beat_s: f32) -> BassLane
-    requires { ⌜ Playable p ⌝ }
-    requires { ⌜ l .count + p .steps .n ≤ 104 ⌝ }
-    ensures { λ r. ⌜ r ≡ barPlayed l p style «beat_s» (p .steps .n) ⌝ }
-{
-    let steps = p.steps;
-    let n = steps.n;
-    let mut out = l;
-    for i in 0..n {
-        out = play(out, p, style, beat_s, i);
-    }
-    out
 }

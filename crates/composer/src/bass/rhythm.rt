@@ -1,7 +1,7 @@
 // A bar's rhythm: the 16ths from its downbeat on which the bass starts a note.
 ghost use mathlib.Core.Path.{_≡_};
-ghost use Prim.Native.Nat.{_+_, _≤_, _<_};
-ghost use Rattle.composer.specs.Bass.Rhythm.{firstBeatSum, rootStepOf, oneStepOf, bassRhythmOf, oneRhythmOf, bassRhythmsOf};
+ghost use Prim.Native.Nat.{_<_};
+ghost use Rattle.composer.specs.Bass.Rhythm.{firstBeatSum, rootStepOf, bassRhythmOf, bassRhythmsOf};
 use streams::draw::chance;
 use streams::stream::NoiseStream;
 
@@ -86,67 +86,29 @@ fn root_step(s: NoiseStream) -> RootDraw
     }
 }
 
-// A later step, if it sounds.
-fn one_step(d: StepsDraw, step: u8) -> StepsDraw
-    requires { ⌜ (step < 16) × (d .steps .n < 13) ⌝ }
-    ensures { λ r. ⌜ r ≡ oneStepOf d step ⌝ }
-    ensures { λ r. ⌜ r .steps .n ≤ d .steps .n + 1 ⌝ }
-{
-    let s = d.stream;
-    let c = chance(s, BASS_STEP_P[step as usize]);
-    let next = c.stream;
-    let steps = d.steps;
-    if c.value {
-        let n = steps.n;
-        let mut at = steps.at;
-        at[n] = step;
-        let more = Steps { at: at, n: n + 1 };
-        StepsDraw {
-            steps: more,
-            stream: next,
-        }
-    } else {
-        StepsDraw {
-            steps: steps,
-            stream: next,
-        }
-    }
-}
-
 // The root's step, then each of steps 4 to 15 by its chance.
 fn bass_rhythm(s: NoiseStream) -> StepsDraw
     ensures { λ r. ⌜ r ≡ bassRhythmOf s ⌝ }
 {
     let root = root_step(s);
-    let next = root.stream;
-    let steps = Steps {
-        at: [root.step, 0, 0, 0, 0, 0, 0, 0, 0, 0, 0, 0, 0],
-        n: 1,
-    };
-    let mut out = StepsDraw {
-        steps: steps,
-        stream: next,
-    };
+    // Copied once for the twelve steps.
+    let chances = BASS_STEP_P;
+    let mut at = [root.step, 0, 0, 0, 0, 0, 0, 0, 0, 0, 0, 0, 0];
+    let mut n: usize = 1;
+    let mut stream = root.stream;
     for i in 0..12u8 {
-        out = one_step(out, i + 4);
+        let step = i + 4;
+        let c = chance(stream, chances[step as usize]);
+        if c.value {
+            at[n] = step;
+            n += 1;
+        }
+        stream = c.stream;
     }
-    out
-}
-
-// Bar b's rhythm.
-fn one_rhythm(r: Rhythms, b: usize) -> Rhythms
-    requires { ⌜ b < 8 ⌝ }
-    ensures { λ r2. ⌜ r2 ≡ oneRhythmOf r b ⌝ }
-{
-    let s = r.stream;
-    let d = bass_rhythm(s);
-    let steps = d.steps;
-    let next = d.stream;
-    let mut bars = r.bars;
-    bars[b] = steps;
-    Rhythms {
-        bars: bars,
-        stream: next,
+    let steps = Steps { at: at, n: n };
+    StepsDraw {
+        steps: steps,
+        stream: stream,
     }
 }
 
@@ -158,12 +120,16 @@ pub(crate) fn bass_rhythms(s: NoiseStream) -> Rhythms
         at: [0u8; 13],
         n: 0,
     };
-    let mut out = Rhythms {
-        bars: [z; 8],
-        stream: s,
-    };
+    let mut bars = [z; 8];
+    let mut stream = s;
     for b in 0..8usize {
-        out = one_rhythm(out, b);
+        let d = bass_rhythm(stream);
+        let steps = d.steps;
+        bars[b] = steps;
+        stream = d.stream;
     }
-    out
+    Rhythms {
+        bars: bars,
+        stream: stream,
+    }
 }

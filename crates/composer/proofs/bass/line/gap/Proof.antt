@@ -11,11 +11,11 @@ add-if1 c = search needs
 add-result : tie.Need-add-result
 add-result c = search needs
 
-array-read-result : tie.Need-array-read-result
-array-read-result c = search needs
+element-copy-out-result : tie.Need-element-copy-out-result
+element-copy-out-result c = search needs
 
-array-read-result-2 : tie.Need-array-read-result-2
-array-read-result-2 c = search needs
+element-copy-out-result-2 : tie.Need-element-copy-out-result-2
+element-copy-out-result-2 c = search needs
 
 sub-result : tie.Need-sub-result
 sub-result c = let a = c .before .before .before .before in omega (arith, a .pre .0 .steps .rises (a .args .i) (omega arith))
@@ -23,17 +23,17 @@ sub-result c = let a = c .before .before .before .before in omega (arith, a .pre
 add-result-2 : tie.Need-add-result-2
 add-result-2 c = search needs
 
-array-read-result-3 : tie.Need-array-read-result-3
-array-read-result-3 c = search needs
+element-copy-out-result-3 : tie.Need-element-copy-out-result-3
+element-copy-out-result-3 c = search needs
 
 sub-result-2 : tie.Need-sub-result-2
-sub-result-2 c = let a = c .before .before .before .before .before in omega (arith, a .pre .0 .steps .below (a .args .i) (omega arith))
+sub-result-2 c = let a = c .before .before .before .before in omega (arith, a .pre .0 .steps .below (a .args .i) (omega arith))
 
 returns : tie.Need-returns
-returns c = rw (lt-ltb _ _ (c .if1 .taken))
+returns c = rw (lt-ltb _ _ (c .before .before .if1 .taken))
 
 returns-2 : tie.Need-returns-2
-returns-2 c = rw (le-ltb _ _ (c .before .if1 .left))
+returns-2 c = rw (le-ltb _ _ (c .before .before .if1 .left))
 
 pub gap-spec : {M : Type 1} → statement M
 gap-spec =
@@ -41,11 +41,11 @@ gap-spec =
     (tie.spec
     add-if1
     add-result
-    array-read-result
-    array-read-result-2
+    element-copy-out-result
+    element-copy-out-result-2
     sub-result
     add-result-2
-    array-read-result-3
+    element-copy-out-result-3
     sub-result-2
     returns
     returns-2)

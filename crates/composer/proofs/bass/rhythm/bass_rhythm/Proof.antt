@@ -1,31 +1,49 @@
 -- After i turns the first i later steps are drawn, and at most i + 1 sound. Assumes nothing.
-use mathlib.Core.Path.{_≡_, refl}
+use mathlib.Core.Path.{_≡_, refl, sym}
+use mathlib.Core.Logic.{⊎-elim}
 use Prim.Native.Nat.{_+_, _-_, _≤_}
-use native.Mathlib.Numerals.{add-one}
 use native.Mathlib.Omega.{arith}
-use Rattle.composer.specs.Bass.Rhythm.{stepsTo, bassRhythmOf}
+use Rattle.composer.specs.Bass.Rhythm.{stepsTo, rootAlone, bassRhythmOf}
+use Rattle.composer.specs.declared.bass.rhythm.Steps.{Steps}
+use Rattle.composer.proofs.bass.RhythmLaws.{turn-sounds, turn-rests}
 use borrow.Author.Needs.{needs}
 use Rattle.composer.proofs.bass.rhythm.bass_rhythm.Statement.{statement}
 use Rattle.composer.proofs.bass.rhythm.bass_rhythm.Tie as tie
 
 abbrev Inv-loop : tie.InvT-loop
-Inv-loop out₀ i₀ out i = (i ≤ 12) × (out ≡ stepsTo out₀ i) × (out .steps .n ≤ i + 1)
+Inv-loop chances at₀ n₀ stream₀ i₀ at n stream i =
+    (i ≤ 12) × (n ≤ i + 1) × (stepsTo (record { steps = record { at = at₀; n = n₀ }; stream = stream₀ }) i ≡ record { steps = record { at = at; n = n }; stream = stream })
 
 abbrev μ-loop : tie.MeasureT-loop
-μ-loop out₀ i₀ out i = 12 - i
+μ-loop chances at₀ n₀ stream₀ i₀ at n stream i = 12 - i
 
 root-step-requires : tie.Need-root-step-requires Inv-loop μ-loop
 root-step-requires c κs = search needs
 
 loop-holds : tie.Need-loop-holds Inv-loop μ-loop
 unfolding stepsTo
-loop-holds c = (omega arith, refl, omega arith)
+loop-holds c = (omega arith, omega arith, refl)
 
-add-one-step : tie.Need-add-one-step Inv-loop μ-loop
-add-one-step c = search needs
+add-step : tie.Need-add-step Inv-loop μ-loop
+add-step c = search needs
 
-one-step-requires : tie.Need-one-step-requires Inv-loop μ-loop
-one-step-requires c κs = search needs
+cast-chance : tie.Need-cast-chance Inv-loop μ-loop
+cast-chance c = search needs
+
+mul-chance : tie.Need-mul-chance Inv-loop μ-loop
+mul-chance c = search needs
+
+array-read-chance : tie.Need-array-read-chance Inv-loop μ-loop
+array-read-chance c = search needs
+
+chance-requires : tie.Need-chance-requires Inv-loop μ-loop
+chance-requires c κs = search needs
+
+array-write-at : tie.Need-array-write-at Inv-loop μ-loop
+array-write-at c = search needs
+
+add-n : tie.Need-add-n Inv-loop μ-loop
+add-n c = search needs
 
 add-i : tie.Need-add-i Inv-loop μ-loop
 add-i c = search needs
@@ -34,17 +52,22 @@ loop-less : tie.Need-loop-less Inv-loop μ-loop
 loop-less c = search needs
 
 loop-again : tie.Need-loop-again Inv-loop μ-loop
-unfolding stepsTo
 loop-again c =
-    let l = c .before .before .loop in
-    (omega arith, rw (add-one, ← l .inv .1) (c .one-step .ensures .0), omega arith)
+    let d = c .before .before in
+    let l = d .before .before .loop in
+    let root = d .before .before .before .before .root-step .result in
+    let t : Steps = record { at = l .at; n = l .n } in
+    ⊎-elim
+    (λ w. (omega arith, omega (arith, w .2), rw (w .1, w .2) (turn-sounds (rootAlone root) (l .i) t (l .stream) (d .chance .result) (l .inv .2) (d .chance .ensures) (w .0 .taken))))
+    (λ w. (omega arith, omega (arith, w .2), rw (w .1, w .2) (turn-rests (rootAlone root) (l .i) t (l .stream) (d .chance .result) (l .inv .2) (d .chance .ensures) (w .0 .left))))
+    (c .before .if1 .came)
 
 returns : tie.Need-returns Inv-loop μ-loop
 unfolding bassRhythmOf
 returns c =
     let l = c .before .loop in
     let e : l .i ≡ 12 = omega arith in
-    rw (← c .before .before .before .root-step .ensures .0, ← e) (l .inv .1)
+    rw (← c .before .before .before .root-step .ensures .0, ← e) (sym (l .inv .2))
 
 pub bass-rhythm-spec : {M : Type 1} → statement M
 bass-rhythm-spec =
@@ -54,8 +77,13 @@ bass-rhythm-spec =
     μ-loop
     root-step-requires
     loop-holds
-    add-one-step
-    one-step-requires
+    add-step
+    cast-chance
+    mul-chance
+    array-read-chance
+    chance-requires
+    array-write-at
+    add-n
     add-i
     loop-less
     loop-again

@@ -1,8 +1,8 @@
 -- Each call is its definition. Assumes nothing.
-use Rattle.composer.specs.Bass.Line.{playOf}
+use Rattle.composer.specs.Bass.Line.{playedNoteOf}
 use borrow.Author.Needs.{needs}
-use Rattle.composer.proofs.bass.line.play.Statement.{statement}
-use Rattle.composer.proofs.bass.line.play.Tie as tie
+use Rattle.composer.proofs.bass.line.played_note.Statement.{statement}
+use Rattle.composer.proofs.bass.line.played_note.Tie as tie
 
 element-copy-out-onset : tie.Need-element-copy-out-onset
 element-copy-out-onset c = search needs
@@ -19,24 +19,15 @@ gap-requires c κs = search needs
 held-requires : tie.Need-held-requires
 held-requires c κs = search needs
 
-mul-notes : tie.Need-mul-notes
-mul-notes c = search needs
-
-array-set-from-notes : tie.Need-array-set-from-notes
-array-set-from-notes c = search needs
-
-add-t19 : tie.Need-add-t19
-add-t19 c = search needs
-
 returns : tie.Need-returns
-unfolding playOf
+unfolding playedNoteOf
 returns c =
-    let h = c .before .before in
+    let h = c .before in
     let d = h .before .before in
-    rw (h .held .ensures, h .before .gap .ensures, d .note-drawn .ensures, d .before .before .onset .ensures)
+    rw (h .held .ensures, h .before .gap .ensures, d .note-drawn .ensures, d .before .onset .ensures)
 
-pub play-spec : {M : Type 1} → statement M
-play-spec =
+pub played-note-spec : {M : Type 1} → statement M
+played-note-spec =
     tie.close
     (tie.spec
     element-copy-out-onset
@@ -44,7 +35,4 @@ play-spec =
     note-drawn-requires
     gap-requires
     held-requires
-    mul-notes
-    array-set-from-notes
-    add-t19
     returns)
