@@ -19,6 +19,7 @@ use Rattle.composer.specs.declared.refusal.Refusal.{Refusal}
 use Rattle.composer.specs.declared.style.Style.{Style}
 use Rattle.composer.proofs.DrumsLaws.{drums-laid, drums-occur, drums-few, drums-counter}
 use Rattle.composer.proofs.HarmonyLaws.{harmony-tonal, harmony-count, harmony-counter, tonal-root}
+use Rattle.composer.proofs.PlainLaws.{plain-numbers}
 use Rattle.composer.proofs.TempoLaws.{tempo-within, tempo-counter}
 use Rattle.composer.proofs.VoiceLaws.{voice-counter}
 use Rattle.composer.proofs.bass.PromiseLaws.{bass-laid, bass-occur, bass-few, bass-sounds}
@@ -88,6 +89,7 @@ module _ (style : Style) (seed : ℕ) where
         chords = tonal-root harmony tonal;
         lanes = lanes-promise;
         bars = bars-promise;
+        plain = plain-numbers style seed;
         hit-in-each = drums-occur (streamOf Stage.Drums seed) style beatS;
         bass-in-each = bass-occur (streamOf Stage.Bass seed) harmony style beatS tonal;
         lead-sings = λ i h. let f = lead-fits (streamOf Stage.Lead seed) harmony tonal style beatS i h in record { least = f .0; most = f .1; class = f .2 };

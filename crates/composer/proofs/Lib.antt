@@ -5,6 +5,8 @@ pub mod ComposeLaws
 pub mod DrumsLaws
 pub mod HarmonyLaws
 pub mod KicksLaws
+pub mod PlainLaws
+pub mod RangeLaws
 pub mod SpreadLaws
 pub mod TempoLaws
 pub mod VoiceLaws

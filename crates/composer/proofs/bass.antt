@@ -1,4 +1,5 @@
 pub mod BassLaws
 pub mod LineLaws
+pub mod PlainLaws
 pub mod PromiseLaws
 pub mod RhythmLaws

@@ -2,3 +2,4 @@ pub mod BarsLaws
 pub mod DrawsLaws
 pub mod GroovesLaws
 pub mod KitLaws
+pub mod PlainLaws

@@ -1,4 +1,5 @@
 pub mod DrawLaws
 pub mod NoteLaws
+pub mod PlainLaws
 pub mod ShellLaws
 pub mod StrokeLaws

@@ -5,6 +5,7 @@ pub mod GroundLaws
 pub mod LeadLaws
 pub mod MelodyLaws
 pub mod PitchLaws
+pub mod PlainLaws
 pub mod PlayedLaws
 pub mod QuarterLaws
 pub mod RhythmLaws

@@ -10,6 +10,7 @@ pub mod Keys
 pub mod Kicks
 pub mod Lead
 pub mod Note
+pub mod Plain
 pub mod Promise
 pub mod Refusal
 pub mod Spread

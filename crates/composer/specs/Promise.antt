@@ -11,6 +11,7 @@ use Rattle.composer.specs.Drums.{drumDrawsOf}
 use Rattle.composer.specs.Keys.{keyDrawsOf}
 use Rattle.composer.specs.Lead.Scale.{hasOf, poolOf}
 use Rattle.composer.specs.Note.{noNote, pastNote, noteBar, noHit, pastHit, hitBar}
+use Rattle.composer.specs.Plain.{PlainPromise}
 use Rattle.composer.specs.Style.{leadStyleOf}
 use Rattle.composer.specs.Tempo.{slowestOf, fastestOf}
 use Rattle.composer.specs.declared.compose.Composed.{Composed}
@@ -51,6 +52,8 @@ pub record ScorePromise (style : Style) (score : Score) (scale : Scale) : Type 0
   pub chords : (b : ℕ) → b < 8 → RootPosition (getD (score .«bar_chords») b pastChord)
   pub lanes : LanesPromise score
   pub bars : BarsPromise score
+  -- the tempo, every time, velocity, gain and duration
+  pub plain : PlainPromise score
   -- every loop bar has a hit and a bass note
   pub hit-in-each : (b : ℕ) → b < 8 → Occurs (λ i. hitBar (getD (score .hits) i pastHit)) (score .«hit_count») b
   pub bass-in-each : (b : ℕ) → b < 8 → Occurs (λ i. noteBar (getD (score .bass) i pastNote)) (score .«bass_count») b

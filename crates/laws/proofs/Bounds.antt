@@ -3,21 +3,23 @@
 use mathlib.Core.Path.{_≡_, refl, sym, ap, _∙_, subst}
 use mathlib.Core.Logic.{_⊎_, inl, inr}
 use Prim.Native.Nat.{ℕ, zero, suc, _+_, _-_, _*_, _/_, _^_, _≤_, _<_, min}
-use native.Mathlib.Nat.{le-trans, le-refl, le-of-eq, le-of-lt, not-le-of-lt, mul-comm, mul-assoc, mul-left-comm, mul-le-mul-right, mul-le-mul, mul-pos, add-mul, mul-sub, mul-mul-mul-comm, add-le-add}
+use native.Mathlib.Nat.{le-trans, le-refl, le-of-eq, le-of-lt, lt-of-lt-of-le, not-le-of-lt, mul-comm, mul-assoc, mul-left-comm, mul-le-mul-right, mul-le-mul, mul-pos, add-mul, mul-sub, mul-mul-mul-comm, add-le-add}
 use native.Mathlib.Omega.{arith}
 use mathlib.Core.Bool.{Bool, true, false, not, _&&_, _||_, cond}
 use lib.IntN.{ℤ}
-use lib.Dec.{T, ltb, eqb, eqb→eq, ltb→lt}
-use lib.Ieee.{Float, nan, inf, fin, Format, prec, emax, low, up, down, odd, units, round, sum, add, sub, mul, le, lt, toUnsigned}
+use borrow.Author.Tests.{ltb-false}
+use lib.Dec.{T, ltb, eqb, eqb→eq, ltb→lt, lit<}
+use lib.Ieee.{Float, nan, inf, fin, Format, prec, emax, low, up, down, odd, units, round, sum, add, sub, mul, div, le, lt, toUnsigned}
 use lib.Ieee.Fits.{down-pos, and-l, round-is}
 use lib.Ieee.Exact.{HasValue}
 use lib.Ieee.Nearest.{div-mono}
 use lib.Ieee.Order.{le-of-values, round-mono}
-use lib.Ieee.Positive.{num, den, den-pos, through}
-use Rattle.laws.specs.Floats.{nonneg, In}
+use lib.Ieee.Positive.{num, den, den-pos, through, first-pos}
+use Rattle.laws.specs.Floats.{f32Of, nonneg, In}
+use Rattle.laws.proofs.Exact.{whole-value, nonneg-of-value, div-is}
 
 -- finite or infinite, with a clear sign
-abbrev plain : Float → Bool
+abbrev pub plain : Float → Bool
 plain nan = false
 plain (inf s) = not s
 plain (fin s m e) = not s
@@ -46,10 +48,10 @@ le→cross (fin false m e) (inf t) p q h = absurd q
 le→cross (fin false m e) (fin true n d) p q h = absurd q
 le→cross (fin false m e) (fin false n d) p q h = lt-or-eq (m * up e * down d) (n * up d * down e) h
 
-cross→le : (x y : Float) → T (nonneg x) → T (nonneg y) → num x * den y ≤ num y * den x → T (le x y)
+pub cross→le : (x y : Float) → T (nonneg x) → T (nonneg y) → num x * den y ≤ num y * den x → T (le x y)
 cross→le x y p q h = le-of-values x y (num x) (den x) (num y) (den y) (den-pos x) (den-pos y) (nn-value x p) (nn-value y q) h
 
-le-refl-nn : (x : Float) → T (nonneg x) → T (le x x)
+pub le-refl-nn : (x : Float) → T (nonneg x) → T (le x x)
 le-refl-nn x p = cross→le x x p p (le-refl (num x * den x))
 
 pub le-trans-nn : (x y z : Float) → T (nonneg x) → T (nonneg y) → T (nonneg z) → T (le x y) → T (le y z) → T (le x z)
@@ -69,10 +71,10 @@ units-plain f q k = go (ltb (q * 2 ^ k) (2 ^ (low f + suc (emax f))))
     go true = odd-plain (suc (prec f)) q k (low f)
     go false = tt
 
-round-plain : (f : Format) (a c : ℕ) → T (plain (round f false a c))
+pub round-plain : (f : Format) (a c : ℕ) → T (plain (round f false a c))
 round-plain f a c = subst (λ (z : Float). T (plain z)) (sym (round-is f false a c)) (units-plain f _ _)
 
-under : (z hi : Float) → T (plain z) → T (nonneg hi) → T (le z hi) → T (nonneg z)
+pub under : (z hi : Float) → T (plain z) → T (nonneg hi) → T (le z hi) → T (nonneg z)
 unfolding le
 under nan hi a p h = absurd a
 under (inf true) hi a p h = absurd a
@@ -82,7 +84,7 @@ under (inf false) (fin t n d) a p h = absurd h
 under (fin s m e) hi a p h = a
 
 -- ---- each operation, as one rounding of a fraction
-add-is : (f : Format) (x y : Float) → T (nonneg x) → T (nonneg y) → add f x y ≡ round f false (num x * den y + num y * den x) (den x * den y)
+pub add-is : (f : Format) (x y : Float) → T (nonneg x) → T (nonneg y) → add f x y ≡ round f false (num x * den y + num y * den x) (den x * den y)
 add-is f nan y p q = absurd p
 add-is f (inf s) y p q = absurd p
 add-is f (fin true m e) y p q = absurd p
@@ -142,14 +144,14 @@ cross-sub a p b q a' p' b' q' h k =
     le-trans (le-of-eq (sub-mul (a * q) (b * p) (p' * q'))) (le-trans (less (a * q * (p' * q')) (b * p * (p' * q')) (a' * q' * (p * q)) (b' * p' * (p * q)) l r) (le-of-eq (sym (sub-mul (a' * q') (b' * p') (p * q)))))
 
 module _ (f : Format) (x x' y y' : Float) (p : T (nonneg x)) (p' : T (nonneg x')) (q : T (nonneg y)) (q' : T (nonneg y')) where
-  add-mono : T (le x x') → T (le y y') → T (le (add f x y) (add f x' y'))
+  pub add-mono : T (le x x') → T (le y y') → T (le (add f x y) (add f x' y'))
   add-mono h k =
       subst (λ (z : Float). T (le z (add f x' y'))) (sym (add-is f x y p q))
       (subst (λ (z : Float). T (le (round f false (num x * den y + num y * den x) (den x * den y)) z)) (sym (add-is f x' y' p' q'))
       (round-mono f (num x * den y + num y * den x) (den x * den y) (num x' * den y' + num y' * den x') (den x' * den y') (mul-pos (den-pos x) (den-pos y)) (mul-pos (den-pos x') (den-pos y'))
       (cross-add (num x) (den x) (num y) (den y) (num x') (den x') (num y') (den y') (le→cross x x' p p' h) (le→cross y y' q q' k))))
 
-  mul-mono : T (le x x') → T (le y y') → T (le (mul f x y) (mul f x' y'))
+  pub mul-mono : T (le x x') → T (le y y') → T (le (mul f x y) (mul f x' y'))
   mul-mono h k =
       subst (λ (z : Float). T (le z (mul f x' y'))) (sym (mul-is f x y p q))
       (subst (λ (z : Float). T (le (round f false (num x * num y) (den x * den y)) z)) (sym (mul-is f x' y' p' q'))
@@ -165,6 +167,16 @@ module _ (f : Format) (x x' y y' : Float) (p : T (nonneg x)) (p' : T (nonneg x')
       (subst (λ (z : Float). T (le (round f false (num x * den y - num y * den x) (den x * den y)) z)) (sym (sub-is f x' y' p' q' m))
       (round-mono f (num x * den y - num y * den x) (den x * den y) (num x' * den y' - num y' * den x') (den x' * den y') (mul-pos (den-pos x) (den-pos y)) (mul-pos (den-pos x') (den-pos y'))
       (cross-sub (num x) (den x) (num y) (den y) (num x') (den x') (num y') (den y') (le→cross x x' p p' h) (le→cross y' y q' q k))))
+
+  -- x / y ≤ x' / y', for 0 < y' ≤ y
+  div-mono-nn : 0 < num y' → T (le x x') → T (le y' y) → T (le (div f x y) (div f x' y'))
+  div-mono-nn N' h k =
+      let kc : num y' * den y ≤ num y * den y' = le→cross y' y q' q k in
+      let N : 0 < num y = first-pos (num y) (den y') (lt-of-lt-of-le (mul-pos N' (den-pos y)) kc) in
+      subst (λ (z : Float). T (le z (div f x' y'))) (sym (div-is f x y p q N))
+      (subst (λ (z : Float). T (le (round f false (num x * den y) (num y * den x)) z)) (sym (div-is f x' y' p' q' N'))
+      (round-mono f (num x * den y) (num y * den x) (num x' * den y') (num y' * den x') (mul-pos N (den-pos x)) (mul-pos N' (den-pos x'))
+      (simp (mul-assoc, mul-comm, mul-left-comm) (simp (mul-assoc, mul-comm, mul-left-comm) at (mul-le-mul (le→cross x x' p p' h) kc)))))
 
 -- ---- between two values
 -- a literal, and a value known to be in
@@ -195,6 +207,9 @@ plain-mul f x y p q = subst (λ (z : Float). T (plain z)) (sym (mul-is f x y p q
 plain-sub : (f : Format) (x y : Float) → T (nonneg x) → T (nonneg y) → T (le y x) → T (plain (sub f x y))
 plain-sub f x y p q h = subst (λ (z : Float). T (plain z)) (sym (sub-is f x y p q h)) (round-plain f (num x * den y - num y * den x) (den x * den y))
 
+plain-div : (f : Format) (x y : Float) → T (nonneg x) → T (nonneg y) → 0 < num y → T (plain (div f x y))
+plain-div f x y p q h = subst (λ (z : Float). T (plain z)) (sym (div-is f x y p q h)) (round-plain f (num x * den y) (num y * den x))
+
 pub add-in : (f : Format) {xl xh x yl yh y : Float} → In xl xh x → In yl yh y → T (nonneg (add f xh yh)) → In (add f xl yl) (add f xh yh) (add f x y)
 add-in f {xl} {xh} {x} {yl} {yh} {y} i j t =
     three (plain-add f xl yl (i .lo-ok) (j .lo-ok)) (plain-add f x y (i .ok) (j .ok)) t
@@ -215,6 +230,51 @@ sub-in f {xl} {xh} {x} {yl} {yh} {y} i j h t =
     three (plain-sub f xl yh (i .lo-ok) (j .hi-ok) h) (plain-sub f x y (i .ok) (j .ok) m) t
     (sub-mono f xl x yh y (i .lo-ok) (i .ok) (j .hi-ok) (j .ok) (i .least) (j .most) h)
     (sub-mono f x xh y yl (i .ok) (i .hi-ok) (j .ok) (j .lo-ok) (i .most) (j .least) m)
+
+-- x / y where y's lower bound is above zero
+pub div-in : (f : Format) {xl xh x yl yh y : Float} → In xl xh x → In yl yh y → T (ltb 0 (num yl)) → T (nonneg (div f xh yl)) → In (div f xl yh) (div f xh yl) (div f x y)
+div-in f {xl} {xh} {x} {yl} {yh} {y} i j h t =
+    let N : 0 < num yl = ltb→lt 0 (num yl) h in
+    let M : 0 < num y = first-pos (num y) (den yl) (lt-of-lt-of-le (mul-pos N (den-pos y)) (le→cross yl y (j .lo-ok) (j .ok) (j .least))) in
+    let H : 0 < num yh = first-pos (num yh) (den y) (lt-of-lt-of-le (mul-pos M (den-pos yh)) (le→cross y yh (j .ok) (j .hi-ok) (j .most))) in
+    three (plain-div f xl yh (i .lo-ok) (j .hi-ok) H) (plain-div f x y (i .ok) (j .ok) M) t
+    (div-mono-nn f xl x yh y (i .lo-ok) (i .ok) (j .hi-ok) (j .ok) M (i .least) (j .most))
+    (div-mono-nn f x xh y yl (i .ok) (i .hi-ok) (j .ok) (j .lo-ok) N (i .most) (j .least))
+
+-- a whole number between two others
+pub whole-in : (a b n : ℕ) → a ≤ n → n ≤ b → b ≤ 2 ^ 24 → In (f32Of a) (f32Of b) (f32Of n)
+whole-in a b n h k l = record {
+  lo-ok = nonneg-of-value (f32Of a) a 1 (whole-value a (omega arith));
+  hi-ok = nonneg-of-value (f32Of b) b 1 (whole-value b l);
+  ok = nonneg-of-value (f32Of n) n 1 (whole-value n (omega arith));
+  least = le-of-values (f32Of a) (f32Of n) a 1 n 1 (lit< tt) (lit< tt) (whole-value a (omega arith)) (whole-value n (omega arith)) (omega arith);
+  most = le-of-values (f32Of n) (f32Of b) n 1 b 1 (lit< tt) (lit< tt) (whole-value n (omega arith)) (whole-value b l) (omega arith);
+}
+
+-- what is not below is not above
+not-lt→le : (x y : Float) → T (nonneg x) → T (nonneg y) → lt x y ≡ false → T (le y x)
+unfolding lt
+not-lt→le nan y p q h = absurd p
+not-lt→le (inf s) y p q h = absurd p
+not-lt→le (fin true m e) y p q h = absurd p
+not-lt→le (fin false m e) nan p q h = absurd q
+not-lt→le (fin false m e) (inf t) p q h = absurd q
+not-lt→le (fin false m e) (fin true n d) p q h = absurd q
+not-lt→le (fin false m e) (fin false n d) p q h = cross→le (fin false n d) (fin false m e) tt tt (ltb-false (m * up e * down d) (n * up d * down e) h)
+
+-- the lesser of two
+pub lesser-in : {lo hi top x y : Float} → In lo hi x → In lo top y → In lo hi (cond (lt x y) x y)
+lesser-in {lo} {hi} {top} {x} {y} i j = go (lt x y) refl
+  where
+    go : (t : Bool) → lt x y ≡ t → In lo hi (cond t x y)
+    go true e = i
+    go false e = record {
+      lo-ok = i .lo-ok;
+      hi-ok = i .hi-ok;
+      ok = j .ok;
+      least = j .least;
+      most = le-trans-nn y x hi (j .ok) (i .ok) (i .hi-ok) (not-lt→le x y (i .ok) (j .ok) e) (i .most);
+    }
 
 caps : (a b c : ℕ) → a ≤ b → min a c ≤ min b c
 caps a b c h = omega arith

@@ -32,7 +32,7 @@ none-below : (u : ℕ) → 0 < 0 * u → ⊥
 none-below u h = not-le-of-lt h (le-of-eq (zero-mul u))
 
 -- a quotient is one rounding of a fraction
-div-is : (f : Format) (x y : Float) → T (nonneg x) → T (nonneg y) → 0 < num y → div f x y ≡ round f false (num x * den y) (num y * den x)
+pub div-is : (f : Format) (x y : Float) → T (nonneg x) → T (nonneg y) → 0 < num y → div f x y ≡ round f false (num x * den y) (num y * den x)
 div-is f nan y p q h = absurd p
 div-is f (inf s) y p q h = absurd p
 div-is f (fin true m e) y p q h = absurd p

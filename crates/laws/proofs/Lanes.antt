@@ -123,6 +123,23 @@ module _ {A : Type 0} (d : A) where
     rises-none : (top : ℕ) → Rises (λ i. f (getD xs i d)) 0 top
     rises-none top = record { most = λ i h. absurd (omega arith); rise = λ i h. absurd (omega arith) }
 
+-- ---- what each entry in use has, with no word of the array's room
+abbrev pub Filled : {A : Type 0} → A → (A → Type 0) → List A → ℕ → Type 0
+Filled d P xs n = (i : ℕ) → i < n → i < length xs → P (getD xs i d)
+
+module _ {A : Type 0} (d : A) (P : A → Type 0) where
+  pub filled-none : (xs : List A) → Filled d P xs 0
+  filled-none xs i h k = absurd (omega arith)
+
+  pub filled-push : (xs : List A) (n : ℕ) (x : A) → Filled d P xs n → P x → Filled d P (set xs n x) (n + 1)
+  filled-push xs n x f p i h k =
+      let size = length-set xs n x in
+      let u : i ≤ n = omega arith in
+      ⊎-elim
+      (λ (e : i ≡ n). subst P (sym (ap (λ (j : ℕ). getD (set xs n x) j d) e ∙ getD-set-same xs n x d (omega (arith, size)))) p)
+      (λ (e : i < n). subst P (sym (getD-set-other xs n i x d (λ q. omega arith))) (f i e (omega (arith, size))))
+      (eq-or-lt-of-le u)
+
 -- ---- a lane that grows bar by bar: xs b are its entries after b bars, n b of them in use
 module _ {A : Type 0} (d none : A) (f : A → ℕ) (cap bars : ℕ) (xs : ℕ → List A) (n : ℕ → ℕ) (start : xs 0 ≡ replicate cap none) (empty : n 0 ≡ 0)
     (few : (b : ℕ) → b ≤ bars → n b ≤ cap) (bar : (b : ℕ) → b < bars → length (xs b) ≡ cap → Grown d (λ a. f a ≡ b) (xs b) (xs (suc b)) (n b) (n (suc b))) where

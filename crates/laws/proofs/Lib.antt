@@ -12,6 +12,7 @@ pub mod Rounding
 pub mod Rows
 pub mod Runs
 pub mod Signed
+pub mod Sizes
 pub mod Sorts
 pub mod Splices
 pub mod Truncation

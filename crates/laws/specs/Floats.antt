@@ -4,6 +4,7 @@ use mathlib.Core.Bool.{Bool, false, not, cond}
 use lib.IntN.{pos}
 use lib.Dec.{T}
 use lib.Ieee.{Float, nan, inf, fin, binary32, ofInt, ofBits, sub, le, toUnsigned}
+use lib.Ieee.Scale.{finite}
 
 -- a whole number as an f32
 abbrev pub f32Of : ℕ → Float
@@ -27,3 +28,15 @@ pub record In (lo hi x : Float) : Type 0 where
   pub ok : T (nonneg x)
   pub least : T (le lo x)
   pub most : T (le x hi)
+
+-- a float without its sign
+abbrev pub abs : Float → Float
+abs nan = nan
+abs (inf s) = inf false
+abs (fin s m e) = fin false m e
+
+-- x is finite, of either sign, and its size is at most hi
+pub record Size (hi x : Float) : Type 0 where
+  pub hi-ok : T (nonneg hi)
+  pub ok : T (finite x)
+  pub most : T (le (abs x) hi)
