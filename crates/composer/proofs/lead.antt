@@ -11,4 +11,6 @@ pub mod QuarterLaws
 pub mod RhythmLaws
 pub mod ScaleLaws
 pub mod SettleLaws
+pub mod StatementLaws
 pub mod TonesLaws
+pub mod TurnLaws

@@ -10,7 +10,6 @@ use Rattle.laws.specs.Order.{totalLe}
 use Rattle.laws.specs.Sorts.{sort}
 use Rattle.composer.specs.Note.{zero32}
 use Rattle.composer.specs.declared.lead.beats.Beats.{Beats}
-use Rattle.composer.specs.declared.lead.beats.Kept.{Kept}
 
 abbrev pub pastBeats : Beats
 pastBeats = record { at = []; n = 0 }
@@ -52,8 +51,9 @@ unfoldable pub thinOf : Float → List Float → List Float
 thinOf k [] = []
 thinOf k (x ∷ xs) = cond (nearOf x k) (thinOf k xs) (x ∷ thinOf x xs)
 
-abbrev pub keepOf : Kept → Float → Kept
-keepOf t x = cond (nearOf x (t .last)) t (record { beats = addOf (t .beats) x; last = x })
+-- how many more are kept at x after k
+abbrev pub moreOf : Float → Float → ℕ
+moreOf x k = cond (nearOf x k) 0 1
 
 -- in order, and none less than half a beat after the last that was kept; nothing is near nan, so the first is kept
 unfoldable pub settled : List Float → List Float

@@ -1,6 +1,7 @@
 -- A bar of the statement. Definitions only.
-use mathlib.Core.Bool.{cond}
+use mathlib.Core.Bool.{Bool, cond}
 use mathlib.Core.List.{List, [], _∷_, foldl}
+use Prim.Native.Nat.{ℕ}
 use lib.Ieee.{Float, binary32, ofBits}
 use Rattle.streams.specs.Draw.{chanceOf}
 use Rattle.streams.specs.declared.stream.NoiseStream.{NoiseStream}
@@ -19,6 +20,10 @@ leadGrid =
 -- no beat yet
 abbrev pub emptyFrom : NoiseStream → BeatsDraw
 emptyFrom s = record { beats = beatsOf []; stream = s }
+
+-- how many notes a slot has
+abbrev pub notesOf : Bool → ℕ
+notesOf sounds = cond sounds 1 0
 
 -- a slot of the grid sounds with the chance p
 unfoldable pub slotOf : Float → BeatsDraw → Float → BeatsDraw

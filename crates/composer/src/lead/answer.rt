@@ -1,13 +1,12 @@
 // A bar of the answer: a statement bar's beats, shifted, pushed, one of them dropped, and settled.
 ghost use mathlib.Core.Path.{_≡_};
-ghost use Prim.Native.Nat.{_+_, _<_, _≤_};
-ghost use Rattle.composer.specs.Lead.Answer.{eitherWayOf, clampOf, shiftOf, varyOf, variedOf, dropOneOf, answerBarOf};
+ghost use Prim.Native.Nat.{_≤_};
+ghost use Rattle.composer.specs.Lead.Answer.{eitherWayOf, clampOf, shiftOf, variedOf, dropOneOf, answerBarOf};
 use crate::lead::beats::Beats;
-use crate::lead::beats::NO_BEATS;
 use crate::lead::beats::remove;
 use crate::lead::beats::settle;
 use crate::lead::push::BeatsDraw;
-use crate::lead::push::push_on;
+use crate::lead::push::push;
 use crate::spread::Drawn;
 use streams::draw::chance;
 use streams::draw::coin;
@@ -65,40 +64,28 @@ fn shift(s: NoiseStream, beat: f32) -> Drawn
     }
 }
 
-// One beat more, shifted and then pushed.
-fn vary(d: BeatsDraw, beat: f32) -> BeatsDraw
-    requires { ⌜ d .beats .n < 7 ⌝ }
-    ensures { λ r. ⌜ r ≡ varyOf d beat ⌝ }
-    ensures { λ r. ⌜ r .beats .n ≤ d .beats .n + 1 ⌝ }
-{
-    let s = d.stream;
-    let beats = d.beats;
-    let m = shift(s, beat);
-    let next = m.stream;
-    let from = BeatsDraw {
-        beats: beats,
-        stream: next,
-    };
-    push_on(from, m.value)
-}
-
-// Every beat of a bar, varied.
+// Every beat of a bar, shifted and then pushed.
 fn varied(s: NoiseStream, b: Beats) -> BeatsDraw
     requires { ⌜ b .n ≤ 7 ⌝ }
     ensures { λ r. ⌜ r ≡ variedOf s b ⌝ }
     ensures { λ r. ⌜ r .beats .n ≤ 7 ⌝ }
 {
-    let z = NO_BEATS;
     let n = b.n;
-    let at = b.at;
-    let mut d = BeatsDraw {
-        beats: z,
-        stream: s,
-    };
+    let from = b.at;
+    let mut at = [0.0f32; 7];
+    let mut stream = s;
     for i in 0..n {
-        d = vary(d, at[i]);
+        let m = shift(stream, from[i]);
+        let moved = m.stream;
+        let d = push(moved, m.value);
+        at[i] = d.value;
+        stream = d.stream;
     }
-    d
+    let beats = Beats { at: at, n: n };
+    BeatsDraw {
+        beats: beats,
+        stream: stream,
+    }
 }
 
 // A bar that is not empty may lose one beat.
@@ -140,7 +127,9 @@ pub(crate) fn answer_bar(s: NoiseStream, b: Beats) -> BeatsDraw
     let left = drop_one(d);
     let beats = left.beats;
     let next = left.stream;
-    let done = settle(beats);
+    let n = beats.n;
+    let mut at = beats.at;
+    let done = settle(&mut at, n);
     BeatsDraw {
         beats: done,
         stream: next,

@@ -1,21 +1,15 @@
 // A bar's beats in an array.
 ghost use mathlib.Core.Path.{_≡_};
-ghost use Prim.Native.Nat.{_+_, _<_, _≤_};
-ghost use lib.ListN.{take};
+ghost use Prim.Native.Nat.{_<_, _≤_};
+ghost use lib.ListN.{length, take};
 ghost use lib.Ieee.{nan};
-ghost use Rattle.composer.specs.Lead.Beats.{beatsOf, addOf, leftAt, removeOf, sizeOf, nearOf, thinOf, keepOf, settleOf};
+ghost use Rattle.composer.specs.Lead.Beats.{beatsOf, leftAt, removeOf, sizeOf, nearOf, moreOf, thinOf, settled};
 use crate::sort::sort_front;
 
 // The first n entries; the others are 0.
 pub struct Beats {
     pub at: [f32; 7],
     pub n: usize,
-}
-
-// What settle has kept so far, and the last of it.
-struct Kept {
-    beats: Beats,
-    last: f32,
 }
 
 // Two beats closer than this merge into the first.
@@ -26,17 +20,6 @@ pub(crate) const NO_BEATS: Beats = Beats {
     at: [0.0, 0.0, 0.0, 0.0, 0.0, 0.0, 0.0],
     n: 0,
 };
-
-// One beat more.
-pub(crate) fn add(b: Beats, x: f32) -> Beats
-    requires { ⌜ b .n < 7 ⌝ }
-    ensures { λ r. ⌜ r ≡ addOf b x ⌝ }
-{
-    let n = b.n;
-    let mut at = b.at;
-    at[n] = x;
-    Beats { at: at, n: n + 1 }
-}
 
 // The beat that stands at i once the one at k has gone.
 fn left_at(at: [f32; 7], k: usize, i: usize) -> f32
@@ -75,52 +58,47 @@ fn near(x: f32, k: f32) -> bool
     size(x - k) < MIN_GAP_BEATS
 }
 
-// x is kept unless it is near the last that was.
-fn keep(t: Kept, x: f32) -> Kept
-    requires { ⌜ t .beats .n < 7 ⌝ }
-    ensures { λ r. ⌜ r ≡ keepOf t x ⌝ }
-    ensures { λ r. ⌜ r .beats .n ≤ t .beats .n + 1 ⌝ }
+// How many more are kept at x: one, unless it is near the last that was, k.
+fn more(x: f32, k: f32) -> usize
+    ensures { λ r. ⌜ r ≡ moreOf x k ⌝ }
+    ensures { λ r. ⌜ r ≤ 1 ⌝ }
 {
-    let beats = t.beats;
-    let last = t.last;
-    if near(x, last) {
-        return Kept {
-            beats: beats,
-            last: last,
-        };
-    }
-    let more = add(beats, x);
-    Kept {
-        beats: more,
-        last: x,
-    }
+    let far = !near(x, k);
+    far as usize
 }
 
-// Of the first n of a, those that are not near the last that was kept; nothing is near a NaN.
-fn thinned(a: [f32; 7], n: usize) -> Beats
-    requires { ⌜ n ≤ 7 ⌝ }
-    ensures { λ r. ⌜ r ≡ beatsOf (thinOf nan (take n a)) ⌝ }
+// Of the first n of a, the first, and each that is not near the last that was kept.
+fn thinned(a: &[f32], n: usize) -> Beats
+    requires { ⌜ (n ≤ 7) × (n ≤ length (now a)) ⌝ }
+    ensures { λ r. ⌜ r ≡ beatsOf (thinOf nan (take n (now (a .entry)))) ⌝ }
     ensures { λ r. ⌜ r .n ≤ 7 ⌝ }
 {
-    let z = NO_BEATS;
-    let mut t = Kept {
-        beats: z,
-        last: 0.0 / 0.0,
-    };
-    for i in 0..n {
-        t = keep(t, a[i]);
+    let mut at = [0.0f32; 7];
+    if n == 0 {
+        return Beats { at: at, n: 0 };
     }
-    t.beats
+    at[0] = a[0];
+    let mut m: usize = 1;
+    for i in 1..n {
+        // Each is written, and the next over it unless it is kept.
+        let x = a[i];
+        let k = more(x, at[m - 1]);
+        at[m] = x;
+        m += k;
+    }
+    if m == 7 {
+        return Beats { at: at, n: m };
+    }
+    at[m] = 0.0;
+    Beats { at: at, n: m }
 }
 
-// A bar's beats in order, each a gap from the last.
-pub(crate) fn settle(b: Beats) -> Beats
-    requires { ⌜ b .n ≤ 7 ⌝ }
-    ensures { λ r. ⌜ r ≡ settleOf b ⌝ }
+// The first n of a in order, each a gap from the last.
+pub(crate) fn settle(a: &mut [f32], n: usize) -> Beats
+    requires { ⌜ (n ≤ 7) × (n ≤ length (now a)) ⌝ }
+    ensures { λ r. ⌜ r ≡ beatsOf (settled (take n (now (a .entry)))) ⌝ }
     ensures { λ r. ⌜ r .n ≤ 7 ⌝ }
 {
-    let n = b.n;
-    let mut a = b.at;
-    sort_front(&mut a, n);
+    sort_front(a, n);
     thinned(a, n)
 }

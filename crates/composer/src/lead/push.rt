@@ -1,9 +1,7 @@
 // The lofi push.
 ghost use mathlib.Core.Path.{_≡_};
-ghost use Prim.Native.Nat.{_+_, _<_, _≤_};
-ghost use Rattle.composer.specs.Lead.Push.{pushOf, pushOnOf};
+ghost use Rattle.composer.specs.Lead.Push.{pushOf};
 use crate::lead::beats::Beats;
-use crate::lead::beats::add;
 use crate::spread::Drawn;
 use crate::timing::SIXTEENTH_BEATS;
 use crate::timing::fract;
@@ -20,7 +18,7 @@ pub struct BeatsDraw {
 const PUSH_P: f32 = 0.15;
 
 // The lofi push of one beat.
-fn push(s: NoiseStream, beat: f32) -> Drawn
+pub(crate) fn push(s: NoiseStream, beat: f32) -> Drawn
     ensures { λ r. ⌜ r ≡ pushOf s beat ⌝ }
 {
     let f = fract(beat);
@@ -41,22 +39,5 @@ fn push(s: NoiseStream, beat: f32) -> Drawn
     Drawn {
         value: beat,
         stream: s,
-    }
-}
-
-// One beat more, pushed.
-pub(crate) fn push_on(d: BeatsDraw, beat: f32) -> BeatsDraw
-    requires { ⌜ d .beats .n < 7 ⌝ }
-    ensures { λ r. ⌜ r ≡ pushOnOf d beat ⌝ }
-    ensures { λ r. ⌜ r .beats .n ≤ d .beats .n + 1 ⌝ }
-{
-    let s = d.stream;
-    let beats = d.beats;
-    let p = push(s, beat);
-    let next = p.stream;
-    let more = add(beats, p.value);
-    BeatsDraw {
-        beats: more,
-        stream: next,
     }
 }

@@ -1,9 +1,10 @@
 // The lead's rhythm: a statement of four bars, and four that answer it.
 ghost use mathlib.Core.Path.{_≡_};
-ghost use Prim.Native.Nat.{ℕ, _<_, _≤_};
+ghost use mathlib.Core.Bool.{cond};
+ghost use Prim.Native.Nat.{ℕ, _≤_};
 ghost use lib.ListN.{getD};
 ghost use Rattle.composer.specs.Lead.Beats.{pastBeats};
-ghost use Rattle.composer.specs.Lead.Rhythm.{stateOf, fallbackOf, statementOf, replyOf, answerOf, rhythmOf};
+ghost use Rattle.composer.specs.Lead.Rhythm.{rhythmOf};
 use crate::lead::answer::answer_bar;
 use crate::lead::beats::Beats;
 use crate::lead::beats::NO_BEATS;
@@ -32,91 +33,13 @@ const FALLBACK_THIRD: Beats = Beats {
     n: 1,
 };
 
-// Bar k of the statement after those before it.
-fn state(r: Rhythm, style: LeadStyle, k: usize) -> Rhythm
-    requires { ⌜ k < 8 ⌝ }
-    requires { ⌜ ((k : ℕ) → getD (r .bars) k pastBeats .n ≤ 7) ⌝ }
-    ensures { λ q. ⌜ q ≡ stateOf r style k ⌝ }
-    ensures { λ q. ⌜ ((k : ℕ) → getD (q .bars) k pastBeats .n ≤ 7) ⌝ }
+// A take with fewer than two notes has lost its singable identity: it gets the spare bar.
+fn spared(few: bool, spare: Beats, drawn: Beats) -> Beats
+    requires { ⌜ (spare .n ≤ 7) × (drawn .n ≤ 7) ⌝ }
+    ensures { λ r. ⌜ r ≡ cond few spare drawn ⌝ }
+    ensures { λ r. ⌜ r .n ≤ 7 ⌝ }
 {
-    let s = r.stream;
-    let d = statement_bar(s, style);
-    let beats = d.beats;
-    let next = d.stream;
-    let mut bars = r.bars;
-    bars[k] = beats;
-    Rhythm {
-        bars: bars,
-        stream: next,
-    }
-}
-
-// A take with fewer than two notes has lost its singable identity: it gets them in bars 0 and 2.
-fn fallback(bars: [Beats; 8]) -> [Beats; 8]
-    requires { ⌜ ((k : ℕ) → getD bars k pastBeats .n ≤ 7) ⌝ }
-    ensures { λ r. ⌜ r ≡ fallbackOf bars ⌝ }
-    ensures { λ r. ⌜ ((k : ℕ) → getD r k pastBeats .n ≤ 7) ⌝ }
-{
-    let notes = bars[0].n + bars[1].n + bars[2].n + bars[3].n;
-    if notes < FALLBACK_NOTES {
-        let mut out = bars;
-        out[0] = FALLBACK_FIRST;
-        out[2] = FALLBACK_THIRD;
-        return out;
-    }
-    bars
-}
-
-// The statement's rhythm.
-fn statement(s: NoiseStream, style: LeadStyle) -> Rhythm
-    ensures { λ r. ⌜ r ≡ statementOf s style ⌝ }
-    ensures { λ r. ⌜ ((k : ℕ) → getD (r .bars) k pastBeats .n ≤ 7) ⌝ }
-{
-    let z = [NO_BEATS; 8];
-    let mut r = Rhythm { bars: z, stream: s };
-    for k in 0..STATEMENT_BARS {
-        r = state(r, style, k);
-    }
-    let drawn = r.bars;
-    let bars = fallback(drawn);
-    let next = r.stream;
-    Rhythm {
-        bars: bars,
-        stream: next,
-    }
-}
-
-// The answer to bar k of the statement.
-fn reply(r: Rhythm, k: usize) -> Rhythm
-    requires { ⌜ k < 4 ⌝ }
-    requires { ⌜ ((k : ℕ) → getD (r .bars) k pastBeats .n ≤ 7) ⌝ }
-    ensures { λ q. ⌜ q ≡ replyOf r k ⌝ }
-    ensures { λ q. ⌜ ((k : ℕ) → getD (q .bars) k pastBeats .n ≤ 7) ⌝ }
-{
-    let s = r.stream;
-    let b = r.bars[k];
-    let d = answer_bar(s, b);
-    let beats = d.beats;
-    let next = d.stream;
-    let mut bars = r.bars;
-    bars[STATEMENT_BARS + k] = beats;
-    Rhythm {
-        bars: bars,
-        stream: next,
-    }
-}
-
-// The answer's rhythm, after the statement's.
-fn answer(statement: Rhythm) -> Rhythm
-    requires { ⌜ ((k : ℕ) → getD (statement .bars) k pastBeats .n ≤ 7) ⌝ }
-    ensures { λ r. ⌜ r ≡ answerOf statement ⌝ }
-    ensures { λ r. ⌜ ((k : ℕ) → getD (r .bars) k pastBeats .n ≤ 7) ⌝ }
-{
-    let mut r = statement;
-    for k in 0..STATEMENT_BARS {
-        r = reply(r, k);
-    }
-    r
+    if few { spare } else { drawn }
 }
 
 // Each bar's beats.
@@ -124,6 +47,28 @@ pub(crate) fn rhythm_of(s: NoiseStream, style: LeadStyle) -> Rhythm
     ensures { λ r. ⌜ r ≡ rhythmOf s style ⌝ }
     ensures { λ r. ⌜ ((k : ℕ) → getD (r .bars) k pastBeats .n ≤ 7) ⌝ }
 {
-    let said = statement(s, style);
-    answer(said)
+    let mut bars = [NO_BEATS; 8];
+    let mut stream = s;
+    for k in 0..STATEMENT_BARS {
+        let d = statement_bar(stream, style);
+        let beats = d.beats;
+        bars[k] = beats;
+        stream = d.stream;
+    }
+    let few = bars[0].n + bars[1].n + bars[2].n + bars[3].n < FALLBACK_NOTES;
+    let first = spared(few, FALLBACK_FIRST, bars[0]);
+    let third = spared(few, FALLBACK_THIRD, bars[2]);
+    bars[0] = first;
+    bars[2] = third;
+    for k in 0..STATEMENT_BARS {
+        let said = bars[k];
+        let d = answer_bar(stream, said);
+        let beats = d.beats;
+        bars[STATEMENT_BARS + k] = beats;
+        stream = d.stream;
+    }
+    Rhythm {
+        bars: bars,
+        stream: stream,
+    }
 }

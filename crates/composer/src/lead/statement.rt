@@ -1,12 +1,12 @@
 // A bar of the statement: the slots of the grid that sound, pushed and settled.
 ghost use mathlib.Core.Path.{_≡_};
-ghost use Prim.Native.Nat.{_+_, _<_, _≤_};
-ghost use Rattle.composer.specs.Lead.Statement.{slotOf, slotsOf, pushesOf, statementBarOf};
+ghost use mathlib.Core.Bool.{cond};
+ghost use Prim.Native.Nat.{_≤_};
+ghost use Rattle.composer.specs.Lead.Statement.{notesOf, statementBarOf};
 use crate::lead::beats::NO_BEATS;
-use crate::lead::beats::add;
 use crate::lead::beats::settle;
 use crate::lead::push::BeatsDraw;
-use crate::lead::push::push_on;
+use crate::lead::push::push;
 use crate::style::LeadStyle;
 use streams::draw::chance;
 use streams::stream::NoiseStream;
@@ -14,72 +14,40 @@ use streams::stream::NoiseStream;
 // The beats that a lead note may land on; 0.0 is the kick's.
 const LEAD_GRID: [f32; 7] = [0.5, 1.0, 1.5, 2.0, 2.5, 3.0, 3.5];
 
-// A slot of the grid at x sounds with the chance p.
-fn slot(p: f32, d: BeatsDraw, x: f32) -> BeatsDraw
-    requires { ⌜ d .beats .n < 7 ⌝ }
-    ensures { λ r. ⌜ r ≡ slotOf p d x ⌝ }
-    ensures { λ r. ⌜ r .beats .n ≤ d .beats .n + 1 ⌝ }
+// How many notes a slot has.
+fn notes(sounds: bool) -> usize
+    ensures { λ r. ⌜ r ≡ notesOf sounds ⌝ }
+    ensures { λ r. ⌜ r ≤ 1 ⌝ }
 {
-    let s = d.stream;
-    let beats = d.beats;
-    let c = chance(s, p);
-    let next = c.stream;
-    if c.value {
-        let more = add(beats, x);
-        return BeatsDraw {
-            beats: more,
-            stream: next,
-        };
-    }
-    BeatsDraw {
-        beats: beats,
-        stream: next,
+    sounds as usize
+}
+
+// One of two numbers.
+fn chosen(first: bool, a: u64, b: u64) -> u64
+    ensures { λ r. ⌜ r ≡ cond first a b ⌝ }
+{
+    if first { a } else { b }
+}
+
+// The stream after a slot's push, which only a slot that sounds has drawn.
+fn after(sounds: bool, pushed: NoiseStream, before: NoiseStream) -> NoiseStream
+    ensures { λ r. ⌜ r ≡ cond sounds pushed before ⌝ }
+{
+    let seed = chosen(sounds, pushed.seed, before.seed);
+    let counter = chosen(sounds, pushed.counter, before.counter);
+    NoiseStream {
+        seed: seed,
+        counter: counter,
     }
 }
 
-// The slots of a bar that sound.
-fn slots(s: NoiseStream, p: f32) -> BeatsDraw
-    ensures { λ r. ⌜ r ≡ slotsOf s p ⌝ }
-    ensures { λ r. ⌜ r .beats .n ≤ 7 ⌝ }
-{
-    let z = NO_BEATS;
-    let mut d = BeatsDraw {
-        beats: z,
-        stream: s,
-    };
-    for i in 0..7usize {
-        d = slot(p, d, LEAD_GRID[i]);
-    }
-    d
-}
-
-// Every beat of a bar, pushed.
-fn pushes(d: BeatsDraw) -> BeatsDraw
-    requires { ⌜ d .beats .n ≤ 7 ⌝ }
-    ensures { λ r. ⌜ r ≡ pushesOf d ⌝ }
-    ensures { λ r. ⌜ r .beats .n ≤ 7 ⌝ }
-{
-    let z = NO_BEATS;
-    let s = d.stream;
-    let b = d.beats;
-    let n = b.n;
-    let at = b.at;
-    let mut out = BeatsDraw {
-        beats: z,
-        stream: s,
-    };
-    for i in 0..n {
-        out = push_on(out, at[i]);
-    }
-    out
-}
-
-// A bar of the statement.
+// A bar of the statement: all slots are drawn, then the pushes of those that sound.
 pub(crate) fn statement_bar(s: NoiseStream, style: LeadStyle) -> BeatsDraw
     ensures { λ r. ⌜ r ≡ statementBarOf s style ⌝ }
     ensures { λ r. ⌜ r .beats .n ≤ 7 ⌝ }
 {
     let odds = style.rest_p;
+    let p = style.note_p;
     let r = odds.draw(s);
     let sr = r.stream;
     if r.value {
@@ -89,13 +57,26 @@ pub(crate) fn statement_bar(s: NoiseStream, style: LeadStyle) -> BeatsDraw
             stream: sr,
         };
     }
-    let kept = slots(sr, style.note_p);
-    let pushed = pushes(kept);
-    let next = pushed.stream;
-    let moved = pushed.beats;
-    let done = settle(moved);
+    let mut sounds = [false; 7];
+    let mut stream = sr;
+    for i in 0..7usize {
+        let c = chance(stream, p);
+        sounds[i] = c.value;
+        stream = c.stream;
+    }
+    let mut at = [0.0f32; 7];
+    let mut n: usize = 0;
+    for i in 0..7usize {
+        // Each is written, and the next over it unless it sounds.
+        let d = push(stream, LEAD_GRID[i]);
+        let next = d.stream;
+        at[n] = d.value;
+        n += notes(sounds[i]);
+        stream = after(sounds[i], next, stream);
+    }
+    let done = settle(&mut at, n);
     BeatsDraw {
         beats: done,
-        stream: next,
+        stream: stream,
     }
 }

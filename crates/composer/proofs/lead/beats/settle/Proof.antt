@@ -12,26 +12,22 @@ use borrow.Author.Needs.{needs}
 use Rattle.composer.proofs.lead.beats.settle.Statement.{statement}
 use Rattle.composer.proofs.lead.beats.settle.Tie as tie
 
-slice-aggregate-sort-front : tie.Need-slice-aggregate-sort-front
-slice-aggregate-sort-front c = search needs
-
 sort-front-requires : tie.Need-sort-front-requires
-sort-front-requires c κs =
-    let k : length (c .before .before .args .b .at) ≡ 7 = search needs in
-    omega arith
+sort-front-requires c κs = search needs
 
 thinned-requires : tie.Need-thinned-requires
 thinned-requires c κs = search needs
 
+same-length : tie.Need-same-length
+same-length c = search needs
+
 returns : tie.Need-returns
 unfolding settled
 returns c =
-    let s = c .before .before in
-    let b = s .before .before .before .args .b in
-    let k : length (b .at) ≡ 7 = search needs in
-    let e : b .n ≡ min (b .n) (length (b .at)) = omega arith in
-    (c .thinned .ensures .0 ∙ ap (λ (xs : List Float). beatsOf (thinOf nan xs)) (sorted-front totalLe (b .at) (s .sort-front .last .0) (b .n) (b .n) e (s .sort-front .ensures)), search needs)
+    let s = c .before .before .before .before in
+    let a = s .before .before .before .args in
+    let e : a .n ≡ min (a .n) (length (a .a .now)) = omega arith in
+    (c .thinned .ensures .0 ∙ ap (λ (xs : List Float). beatsOf (thinOf nan xs)) (sorted-front totalLe (a .a .now) (s .sort-front .last .0) (a .n) (a .n) e (s .sort-front .ensures)), c .thinned .ensures .1)
 
 pub settle-spec : {M : Type 1} → statement M
-settle-spec =
-    tie.close (tie.spec slice-aggregate-sort-front sort-front-requires thinned-requires returns)
+settle-spec = tie.close (tie.spec sort-front-requires thinned-requires same-length returns)

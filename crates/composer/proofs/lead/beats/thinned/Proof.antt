@@ -1,59 +1,93 @@
 -- After i turns the first i beats are thinned. Assumes nothing.
-use mathlib.Core.Path.{_≡_, refl, ap, _∙_}
-use mathlib.Core.List.{foldl}
 use Prim.Native.Nat.{_≤_, _-_}
+use mathlib.Core.Path.{_≡_}
 use native.Mathlib.Omega.{arith}
-use lib.ListN.{length, take}
-use lib.Ieee.{nan, div, ofBits}
-use lib.Seq.{length-take-le}
+use lib.ListN.{take}
+use lib.Ieee.{nan}
 use Rattle.laws.specs.Lists.{pad}
-use Rattle.laws.proofs.Sorts.{fold-on}
-use Rattle.composer.specs.Lead.Beats.{keepOf}
-use Rattle.composer.specs.declared.lead.beats.Kept.{Kept}
-use Rattle.composer.proofs.lead.BeatsLaws.{noneKept, thin-whole}
+use Rattle.composer.specs.Lead.Beats.{thinOf}
+use Rattle.composer.proofs.lead.BeatsLaws.{Written, written-full, written-rest, thin-first, thin-on}
 use borrow.Author.Needs.{needs}
 use Rattle.composer.proofs.lead.beats.thinned.Statement.{statement}
 use Rattle.composer.proofs.lead.beats.thinned.Tie as tie
 
 abbrev Inv-loop : tie.InvT-loop
-Inv-loop n a t₀ i₀ t i = (i ≤ n) × (t .beats .n ≤ i) × (t ≡ foldl keepOf noneKept (take i a))
+Inv-loop a n at₀ m₀ i₀ at m i = (1 ≤ i) × (i ≤ n) × (1 ≤ m) × (m ≤ i) × Written (thinOf nan (take i a)) at m
 
 abbrev μ-loop : tie.MeasureT-loop
-μ-loop n a t₀ i₀ t i = n - i
+μ-loop a n at₀ m₀ i₀ at m i = n - i
+
+returns : tie.Need-returns Inv-loop μ-loop
+unfolding thinOf pad
+returns c = (rw (c .if1 .taken), omega arith)
+
+shared-slice-read-at : tie.Need-shared-slice-read-at Inv-loop μ-loop
+shared-slice-read-at c = omega arith
+
+array-write-at : tie.Need-array-write-at Inv-loop μ-loop
+array-write-at c = omega arith
 
 loop-holds : tie.Need-loop-holds Inv-loop μ-loop
-unfolding div ofBits pad
-loop-holds c = (search needs, search needs, refl)
+loop-holds c = (omega arith, omega arith, omega arith, omega arith, thin-first (c .before .before .before .args .a .now) (omega arith))
 
-mul-keep : tie.Need-mul-keep Inv-loop μ-loop
-mul-keep c = search needs
+mul-x : tie.Need-mul-x Inv-loop μ-loop
+mul-x c = search needs
 
-array-read-keep : tie.Need-array-read-keep Inv-loop μ-loop
-array-read-keep c = search needs
+shared-slice-read-x : tie.Need-shared-slice-read-x Inv-loop μ-loop
+shared-slice-read-x c = search needs
 
-keep-requires : tie.Need-keep-requires Inv-loop μ-loop
-keep-requires c κs = search needs
+sub-more : tie.Need-sub-more Inv-loop μ-loop
+sub-more c = search needs
+
+mul-more : tie.Need-mul-more Inv-loop μ-loop
+mul-more c = search needs
+
+array-read-more : tie.Need-array-read-more Inv-loop μ-loop
+array-read-more c = search needs
+
+more-requires : tie.Need-more-requires Inv-loop μ-loop
+more-requires c κs = search needs
+
+mul-at : tie.Need-mul-at Inv-loop μ-loop
+mul-at c = search needs
+
+array-write-at-2 : tie.Need-array-write-at-2 Inv-loop μ-loop
+array-write-at-2 c = search needs
+
+add-m : tie.Need-add-m Inv-loop μ-loop
+add-m c = omega arith
 
 add-i : tie.Need-add-i Inv-loop μ-loop
-add-i c = search needs
+add-i c = omega arith
 
 loop-less : tie.Need-loop-less Inv-loop μ-loop
-loop-less c = search needs
+loop-less c = omega arith
 
 loop-again : tie.Need-loop-again Inv-loop μ-loop
 loop-again c =
-    let l = c .before .before .loop in
-    let a = c .before .before .before .args .t1 in
-    let k : length a ≡ 7 = search needs in
-    (omega arith, omega arith, fold-on keepOf noneKept a (l .i) nan (l .t) (c .keep .result) (omega arith) (l .inv .2) (c .keep .ensures .0))
+    let l = c .before .before .before .loop in
+    let a = c .before .before .before .before .before .before .before .args .a .now in
+    (omega arith, omega arith, omega arith, omega arith, thin-on a (l .at) (l .i) (l .m) (omega arith) (omega arith) (omega arith) (l .inv .4) (c .more .result) (c .more .ensures .0))
 
-returns : tie.Need-returns Inv-loop μ-loop
-returns c =
+returns-2 : tie.Need-returns-2 Inv-loop μ-loop
+returns-2 c =
     let l = c .before .before .loop in
-    let a = c .before .before .before .args .t1 in
-    let k : length a ≡ 7 = search needs in
-    let e : l .i ≡ c .before .before .before .args .n = omega arith in
-    (rw (← e) (ap (λ (t : Kept). t .beats) (l .inv .2) ∙ thin-whole (take (l .i) a) (omega (arith, length-take-le (l .i) a (omega arith)))), search needs)
+    let s = c .before .before .before .before .before .before .args in
+    let e : l .i ≡ s .n = omega arith in
+    (rw (← e) (written-full (thinOf nan (take (l .i) (s .a .now))) (l .at) (l .m) (l .inv .4) (c .if2 .taken)), omega arith)
+
+mul-at-2 : tie.Need-mul-at-2 Inv-loop μ-loop
+mul-at-2 c = omega arith
+
+array-write-at-3 : tie.Need-array-write-at-3 Inv-loop μ-loop
+array-write-at-3 c = omega arith
+
+returns-3 : tie.Need-returns-3 Inv-loop μ-loop
+returns-3 c =
+    let l = c .before .before .loop in
+    let s = c .before .before .before .before .before .before .args in
+    let e : l .i ≡ s .n = omega arith in
+    (rw (← e) (written-rest (thinOf nan (take (l .i) (s .a .now))) (l .at) (l .m) (l .inv .4)), omega arith)
 
 pub thinned-spec : {M : Type 1} → statement M
 thinned-spec =
@@ -61,11 +95,23 @@ thinned-spec =
     (tie.spec
     Inv-loop
     μ-loop
+    returns
+    shared-slice-read-at
+    array-write-at
     loop-holds
-    mul-keep
-    array-read-keep
-    keep-requires
+    mul-x
+    shared-slice-read-x
+    sub-more
+    mul-more
+    array-read-more
+    more-requires
+    mul-at
+    array-write-at-2
+    add-m
     add-i
     loop-less
     loop-again
-    returns)
+    returns-2
+    mul-at-2
+    array-write-at-3
+    returns-3)
