@@ -1,5 +1,5 @@
 -- Every note of the melody is in the window and the scale, and each bar finds its notes and its room. Assumes nothing.
-use mathlib.Core.Path.{_≡_, refl, _∙_}
+use mathlib.Core.Path.{_≡_, refl, ap, _∙_}
 use mathlib.Core.Logic.{⊎-elim}
 use mathlib.Core.Bool.{cond}
 use mathlib.Core.List.{List}
@@ -17,14 +17,16 @@ use Rattle.composer.specs.Lead.Beats.{pastBeats}
 use Rattle.composer.specs.Lead.Scale.{fitsOf}
 use Rattle.composer.specs.Lead.Line.{placeOf}
 use Rattle.composer.specs.Lead.Ground.{groundOf}
-use Rattle.composer.specs.Lead.Melody.{pastLead, stepOf, openingOf, singOf, barTo, startOf, openLineOf, barsTo, melodyOf}
+use Rattle.composer.specs.Lead.Melody.{pastLead, stepOf, firstOf, openingOf, singOf, barTo, startOf, openLineOf, barsTo, melodyOf}
 use Rattle.composer.specs.Lead.Sound.{Sound, Fit, Good, Ready}
 use Rattle.composer.specs.declared.chord.Chord.{Chord}
 use Rattle.composer.specs.declared.style.LeadStyle.{LeadStyle}
 use Rattle.composer.specs.declared.lead.beats.Beats.{Beats}
+use Rattle.composer.specs.declared.lead.line.Place.{Place}
 use Rattle.composer.specs.declared.lead.line.Line.{Line}
 use Rattle.composer.specs.declared.lead.ground.Ground.{Ground}
 use Rattle.composer.specs.declared.lead.melody.LeadNote.{LeadNote}
+use Rattle.composer.specs.declared.lead.melody.LeadStep.{LeadStep}
 use Rattle.composer.specs.declared.lead.melody.Sung.{Sung}
 use Rattle.composer.proofs.lead.FitLaws.{fits-what}
 use Rattle.composer.proofs.lead.PitchLaws.{step-note-fits, line-fits}
@@ -59,6 +61,15 @@ module _ (pool : List ℕ) (g : Ground) (bar : ℕ) (b : Beats) where
   unfolding barTo singOf
   bar-count m zero = omega arith
   bar-count m (suc i) = omega (arith, bar-count m i)
+
+  -- one note more, over the code's own equations
+  pub bar-more : (m : Sung) (i : ℕ) (notes : List LeadNote) (count : ℕ) (line : Line) (p : Place) (first : ℕ) (t : LeadStep) → record { notes = notes; count = count; line = line } ≡ barTo pool g bar b m i
+      → p ≡ placeOf bar b i → first ≡ firstOf count (line .prev) (getD notes 0 pastLead .note) → t ≡ stepOf pool g line p first
+      → record { notes = set notes count (record { bar = bar; beat = getD (b .at) i nan; note = t .note; vel = t .vel }); count = count + 1; line = t .line } ≡ barTo pool g bar b m (i + 1)
+  unfolding barTo singOf
+  bar-more m i notes count line p first t e f h u =
+      let n : i + 1 ≡ suc i = add-one i in
+      rw (n, ← e, u, h, f)
 
   module _ (sound : Sound pool g) where
     good-sing : (m : Sung) (i : ℕ) → Good pool (g .lo) (g .hi) m → m .count < 56 → Good pool (g .lo) (g .hi) (singOf pool g bar b m i)
@@ -110,15 +121,24 @@ module _ (beats : List Beats) (bars : List Chord) (pool : List ℕ) (style : Lea
   unfolding openLineOf
   good-start s m from e f = rw (f, e) (good-open pool (style .lo) (style .hi) first s (ready .start), refl)
 
-  -- what bar k's turn asks
-  pub turn-asks : (m : Sung) (k : ℕ) → k < 8 → Good pool (style .lo) (style .hi) m × (m .count ≡ 0)
-      → Sound pool (ground k)
-      × (Good pool (style .lo) (style .hi) (barsTo beats bars pool style m k)
-      × ((getD beats k pastBeats .n ≤ 7) × (barsTo beats bars pool style m k .count + getD beats k pastBeats .n ≤ 56)))
-  turn-asks m k h g =
-      let b = good-bars m k (omega arith) (g .0) (g .1) in
-      let few = ready .few k h in
-      (ready .sound k h, (b .0, (few, omega (arith, b .1))))
+  -- one bar more, over the code's own equations
+  pub bars-more : (start m sung : Sung) (g : Ground) (k i : ℕ) → m ≡ barsTo beats bars pool style start k → g ≡ ground k → sung ≡ barTo pool g k (getD beats k pastBeats) m i
+      → i ≡ getD beats k pastBeats .n → sung ≡ barsTo beats bars pool style start (k + 1)
+  unfolding barsTo
+  bars-more start m sung g k i e f h n =
+      let next : k + 1 ≡ suc k = add-one k in
+      rw next (rw (f, e) at (h ∙ ap (barTo pool g k (getD beats k pastBeats) m) n))
+
+  -- what note i of bar k asks, over the code's own equations
+  pub note-asks : (s : NoiseStream) (from : ℕ) (start m sung : Sung) (g : Ground) (k i : ℕ) → from ≡ first → start ≡ openLineOf from s → m ≡ barsTo beats bars pool style start k → g ≡ ground k
+      → sung ≡ barTo pool g k (getD beats k pastBeats) m i → k < 8 → i < getD beats k pastBeats .n → Sound pool g × Good pool (g .lo) (g .hi) sung
+  unfolding groundOf
+  note-asks s from start m sung g k i e f h gs t k-lt i-lt =
+      let b = getD beats k pastBeats in
+      let opened = good-start s start from e f in
+      let before = good-bars start k (omega arith) (opened .0) (opened .1) in
+      let sound = ready .sound k k-lt in
+      rw (t, h, gs) (sound, good-bar pool (ground k) k b sound (barsTo beats bars pool style start k) i (before .0) (omega (arith, before .1, ready .few k k-lt)))
 
   -- every note is in the window and the scale, and there are at most 56
   pub melody-good : (s : NoiseStream) → Good pool (style .lo) (style .hi) (melodyOf s beats bars pool style) × (melodyOf s beats bars pool style .count ≤ 56)

@@ -22,7 +22,7 @@ use Rattle.composer.specs.Lead.Beats.{pastBeats}
 use Rattle.composer.specs.Lead.Ground.{groundOf}
 use Rattle.composer.specs.Lead.Line.{placeOf}
 use Rattle.composer.specs.Lead.Melody.{pastLead, velocityOf, stepOf, singOf, barTo, startOf, openLineOf, barsTo, melodyOf}
-use Rattle.composer.specs.Lead.Played.{leadLag, leadAccent, onGridOf, playOf, playTo, silenceOf, playedOf}
+use Rattle.composer.specs.Lead.Played.{leadLag, leadAccent, onGridOf, playedNoteOf, playOf, playTo, silenceOf, playedOf}
 use Rattle.composer.specs.Lead.Rhythm.{rhythmOf}
 use Rattle.composer.specs.Lead.Role.{roleOf}
 use Rattle.composer.specs.Lead.Scale.{poolOf}
@@ -161,7 +161,7 @@ module _ (beatS : Float) (beat : In quickest slowest beatS) where
 
   module _ (m : Sung) (sung : (i : ℕ) → i < m .count → PlainSung (getD (m .notes) i pastLead)) (dur : Float) (held : In shortest longest dur) where
     play-full : (s : NoiseStream) (k : ℕ) → k ≤ m .count → Filled pastNote PlainNote (playTo m beatS dur (silenceOf s) k .notes) (playTo m beatS dur (silenceOf s) k .count)
-    unfolding playTo playOf
+    unfolding playTo playOf playedNoteOf
     play-full s zero h = filled-none pastNote PlainNote (silenceOf s .notes)
     play-full s (suc k) h =
         let l = playTo m beatS dur (silenceOf s) k in

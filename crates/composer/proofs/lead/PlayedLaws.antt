@@ -1,20 +1,27 @@
 -- The lane keeps the melody's bars and pitches, note for note, and nothing else is played. Assumes nothing.
-use mathlib.Core.Path.{_≡_, refl, sym, _∙_}
+use mathlib.Core.Path.{_≡_, refl, sym, ap, _∙_}
 use mathlib.Core.Logic.{⊎-elim}
-use Prim.Native.Nat.{ℕ, zero, suc, _≤_, _<_}
+use mathlib.Core.List.{List}
+use Prim.Native.Nat.{ℕ, zero, suc, _+_, _≤_, _<_}
 use native.Mathlib.Nat.{eq-or-lt-of-le, le-of-suc-le-suc, not-suc-le-zero}
+use native.Mathlib.Numerals.{add-one}
 use native.Mathlib.Omega.{arith}
-use lib.ListN.{getD, length, length-set, getD-replicate}
+use lib.ListN.{getD, set, length, length-set, getD-replicate}
 use lib.Seq.{getD-set-same, getD-set-other}
 use lib.Ieee.{Float}
 use Rattle.streams.specs.declared.stream.NoiseStream.{NoiseStream}
 use Rattle.composer.specs.Note.{noNote, pastNote}
 use Rattle.composer.specs.Lead.Melody.{pastLead}
-use Rattle.composer.specs.Lead.Played.{playOf, playTo, silenceOf, playedOf}
+use Rattle.composer.specs.Lead.Played.{playedNoteOf, playOf, playTo, silenceOf, playedOf}
 use Rattle.composer.specs.declared.note.Note.{Note}
 use Rattle.composer.specs.declared.lead.LeadLane.{LeadLane}
 use Rattle.composer.specs.declared.lead.melody.LeadNote.{LeadNote}
 use Rattle.composer.specs.declared.lead.melody.Sung.{Sung}
+use Rattle.composer.specs.declared.lead.played.PlayedNote.{PlayedNote}
+
+-- a lane's parts, together
+abbrev pub laneWith : List Note → NoiseStream → ℕ → LeadLane
+laneWith notes stream count = record { notes = notes; count = count; stream = stream }
 
 -- a note as played: its bar and its pitch are kept
 abbrev pub Keeps : Note → LeadNote → Type 0
@@ -24,7 +31,15 @@ module _ (m : Sung) (beatS dur : Float) (s : NoiseStream) where
   abbrev lane : ℕ → LeadLane
   lane k = playTo m beatS dur (silenceOf s) k
 
-  pub lane-count : (k : ℕ) → lane k .count ≡ k
+  -- one note more, over the code's own equations
+  pub lane-more : (notes : List Note) (stream : NoiseStream) (i : ℕ) (x : LeadNote) (p : PlayedNote) → laneWith notes stream i ≡ lane i → x ≡ getD (m .notes) i pastLead
+      → p ≡ playedNoteOf x beatS dur stream → laneWith (set notes i (p .note)) (p .stream) (i + 1) ≡ lane (i + 1)
+  unfolding playTo playOf
+  lane-more notes stream i x p e f h =
+      let next : laneWith (set notes i (p .note)) (p .stream) (i + 1) ≡ lane (suc i) = rw (← e, h, f) in
+      next ∙ ap lane (sym (add-one i))
+
+  lane-count : (k : ℕ) → lane k .count ≡ k
   unfolding playTo playOf
   lane-count zero = refl
   lane-count (suc k) = omega (arith, lane-count k)
@@ -35,7 +50,7 @@ module _ (m : Sung) (beatS dur : Float) (s : NoiseStream) where
   lane-size (suc k) = length-set (lane k .notes) (lane k .count) _ ∙ lane-size k
 
   lane-keeps : (k : ℕ) → k ≤ 56 → (i : ℕ) → i < k → Keeps (getD (lane k .notes) i pastNote) (getD (m .notes) i pastLead)
-  unfolding playTo playOf
+  unfolding playTo playOf playedNoteOf
   lane-keeps zero h i b = absurd (not-suc-le-zero b)
   lane-keeps (suc k) h i b =
       ⊎-elim
@@ -50,6 +65,11 @@ module _ (m : Sung) (beatS dur : Float) (s : NoiseStream) where
       getD-set-other (lane k .notes) (lane k .count) i _ pastNote (λ f. omega (arith, lane-count k)) ∙ lane-rest k i (omega arith) b
 
 module _ (m : Sung) (beatS dur : Float) where
+  pub played-all : (notes : List Note) (stream : NoiseStream) (i : ℕ) → laneWith notes stream i ≡ playTo m beatS dur (silenceOf (m .line .stream)) i → i ≡ m .count
+      → laneWith notes stream (m .count) ≡ playedOf m beatS dur
+  unfolding playedOf
+  played-all notes stream i e n = ap (laneWith notes stream) (sym n) ∙ e ∙ ap (playTo m beatS dur (silenceOf (m .line .stream))) n
+
   pub played-count : playedOf m beatS dur .count ≡ m .count
   unfolding playedOf
   played-count = lane-count m beatS dur (m .line .stream) (m .count)

@@ -2,7 +2,7 @@
 use mathlib.Core.Bool.{Bool, cond}
 use mathlib.Core.List.{List}
 use Prim.Native.Nat.{ℕ}
-use Rattle.composer.specs.Lead.Tones.{noClass, tonesInOf, strongOf}
+use Rattle.composer.specs.Lead.Tones.{noClass, tonesInOf, chordTonesOf, withoutOf, strongOf}
 use Rattle.composer.specs.declared.chord.Chord.{Chord}
 use Rattle.composer.specs.declared.style.LeadStyle.{LeadStyle}
 use Rattle.composer.specs.declared.lead.tones.Tones.{Tones}
@@ -13,6 +13,12 @@ groundOf style chord pool =
     let tones = tonesInOf (chord .notes) pool noClass (style .lo) (style .hi) in
     let rootless = tonesInOf (chord .notes) pool (chord .«root_pc») (style .lo) (style .hi) in
     record { lo = style .lo; hi = style .hi; velocity = style .velocity; tones = tones; strong = strongOf tones rootless }
+
+-- the same from the scale's notes in the window
+unfoldable pub groundFrom : LeadStyle → Chord → Tones → Ground
+groundFrom style chord sung =
+    let tones = chordTonesOf sung (chord .notes) in
+    record { lo = style .lo; hi = style .hi; velocity = style .velocity; tones = tones; strong = strongOf tones (withoutOf tones (chord .«root_pc»)) }
 
 abbrev pub tonesForOf : Ground → Bool → Tones
 tonesForOf g strong = cond strong (g .strong) (g .tones)

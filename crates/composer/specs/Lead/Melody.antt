@@ -51,8 +51,11 @@ stepOf pool g l p first =
     record { note = q .note; vel = velocityOf (c .role) (d .value); line = carriedOf l (p .bar) (q .note) (d .stream) }
 
 -- the first note sung, or else the one that the line starts from
+abbrev pub firstOf : ℕ → ℕ → ℕ → ℕ
+firstOf count start sung = cond (eqb count 0) start sung
+
 abbrev pub openingOf : Sung → ℕ
-openingOf m = cond (eqb (m .count) 0) (m .line .prev) (getD (m .notes) 0 pastLead .note)
+openingOf m = firstOf (m .count) (m .line .prev) (getD (m .notes) 0 pastLead .note)
 
 -- one note more
 unfoldable pub singOf : List ℕ → Ground → ℕ → Beats → Sung → ℕ → Sung
@@ -77,12 +80,12 @@ unfoldable pub startOf : LeadStyle → Chord → List ℕ → ℕ
 startOf style chord pool =
     nearestOf (tonesIn (chord .notes) pool noClass (max (style .lo) (style .hi - 12)) (style .hi)) ((style .lo + style .hi) / 2 + 2)
 
+abbrev pub newLineOf : ℕ → NoiseStream → Line
+newLineOf first s = record { stream = s; from = first; prev = first; head = 0 ∷ 0 ∷ []; heads = 0 }
+
+-- nothing sung yet
 unfoldable pub openLineOf : ℕ → NoiseStream → Sung
-openLineOf first s = record {
-  notes = replicate 56 noLead;
-  count = 0;
-  line = record { stream = s; from = first; prev = first; head = 0 ∷ 0 ∷ []; heads = 0 };
-}
+openLineOf first s = record { notes = replicate 56 noLead; count = 0; line = newLineOf first s }
 
 -- the first k bars, each over its chord
 unfoldable pub barsTo : List Beats → List Chord → List ℕ → LeadStyle → Sung → ℕ → Sung

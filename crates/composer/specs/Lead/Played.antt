@@ -12,6 +12,7 @@ use Rattle.composer.specs.declared.spread.Spread.{Spread}
 use Rattle.composer.specs.declared.lead.LeadLane.{LeadLane}
 use Rattle.composer.specs.declared.lead.melody.LeadNote.{LeadNote}
 use Rattle.composer.specs.declared.lead.melody.Sung.{Sung}
+use Rattle.composer.specs.declared.lead.played.PlayedNote.{PlayedNote}
 
 -- 0.008 and 0.014
 abbrev pub leadLag : Spread
@@ -24,17 +25,18 @@ leadAccent = record { base = ofBits binary32 0x3f6b_851f; span = ofBits binary32
 abbrev pub onGridOf : LeadNote → Float → Float
 onGridOf x beatS = add binary32 (mul binary32 (f32Of (x .bar)) (barSOf beatS)) (mul binary32 (x .beat) beatS)
 
--- one note more: its lag is drawn, then its accent
+-- its lag is drawn, then its accent
+unfoldable pub playedNoteOf : LeadNote → Float → Float → NoiseStream → PlayedNote
+playedNoteOf x beatS dur s =
+    let d = afterOf leadLag (onGridOf x beatS) s in
+    let e = drawOf leadAccent (d .stream) in
+    record { note = record { bar = x .bar; at = d .value; midi = x .note; vel = mul binary32 (x .vel) (e .value); dur = dur }; stream = e .stream }
+
+-- one note more
 unfoldable pub playOf : Sung → Float → Float → LeadLane → ℕ → LeadLane
 playOf m beatS dur l i =
-    let x = getD (m .notes) i pastLead in
-    let d = afterOf leadLag (onGridOf x beatS) (l .stream) in
-    let e = drawOf leadAccent (d .stream) in
-    record {
-      notes = set (l .notes) (l .count) (record { bar = x .bar; at = d .value; midi = x .note; vel = mul binary32 (x .vel) (e .value); dur = dur });
-      count = l .count + 1;
-      stream = e .stream;
-    }
+    let p = playedNoteOf (getD (m .notes) i pastLead) beatS dur (l .stream) in
+    record { notes = set (l .notes) (l .count) (p .note); count = l .count + 1; stream = p .stream }
 
 -- the first i notes
 unfoldable pub playTo : Sung → Float → Float → LeadLane → ℕ → LeadLane

@@ -4,7 +4,7 @@ use mathlib.Core.List.{List, [], _∷_, _++_}
 use Prim.Native.Nat.{ℕ, zero, suc, _+_, _-_, _*_, _%_}
 use lib.Dec.{leb, ltb, eqb}
 use lib.ListN.{length, take}
-use Rattle.laws.specs.Lists.{pad}
+use Rattle.laws.specs.Lists.{pad, filterOf}
 use Rattle.composer.specs.Lead.Scale.{hasOf}
 use Rattle.composer.specs.declared.lead.tones.Tones.{Tones}
 
@@ -46,6 +46,27 @@ listed t = take (t .n) (t .at)
 
 abbrev pub tonesInOf : List ℕ → List ℕ → ℕ → ℕ → ℕ → Tones
 tonesInOf chord pool avoid lo hi = packed (tonesIn chord pool avoid lo hi)
+
+-- the scale's notes from lo to hi
+abbrev pub hasClass : List ℕ → ℕ → Bool
+hasClass pool n = hasOf pool (n % 12)
+
+unfoldable pub scaleNotesIn : List ℕ → ℕ → ℕ → List ℕ
+scaleNotesIn pool lo hi = kept (hasClass pool) lo (hi + 1 - lo)
+
+abbrev pub scaleNotesOf : List ℕ → ℕ → ℕ → Tones
+scaleNotesOf pool lo hi = packed (scaleNotesIn pool lo hi)
+
+-- those of the notes that are the chord's
+abbrev pub chordTonesOf : Tones → List ℕ → Tones
+chordTonesOf notes chord = packed (filterOf (inChordOf chord) (listed notes))
+
+-- those of the tones that are of another class
+abbrev pub isOther : ℕ → ℕ → Bool
+isOther pc n = not (eqb (n % 12) pc)
+
+abbrev pub withoutOf : Tones → ℕ → Tones
+withoutOf tones pc = packed (filterOf (isOther pc) (listed tones))
 
 -- the tones without the root, where there are any
 abbrev pub strongOf : Tones → Tones → Tones

@@ -1,17 +1,14 @@
 // What a bar's notes are drawn from: the window, the velocities, and the chord's tones.
 ghost use mathlib.Core.Path.{_≡_};
-ghost use Prim.Native.Nat.{_+_, _≤_, _<_};
-ghost use Rattle.composer.specs.Lead.Ground.{groundOf, tonesForOf};
+ghost use Prim.Native.Nat.{_≤_};
+ghost use Rattle.composer.specs.Lead.Ground.{groundFrom, tonesForOf};
 use crate::chord::Chord;
-use crate::chord::OCTAVE;
 use crate::lead::tones::Tones;
+use crate::lead::tones::chord_tones;
 use crate::lead::tones::strong_of;
-use crate::lead::tones::tones_in;
+use crate::lead::tones::without;
 use crate::spread::Spread;
 use crate::style::LeadStyle;
-
-// No note's class, so that none is avoided.
-pub(crate) const NO_CLASS: u8 = OCTAVE;
 
 // `strong` has the tones of a strong beat: none is the root, where there are others.
 pub struct Ground {
@@ -22,17 +19,17 @@ pub struct Ground {
     pub strong: Tones,
 }
 
-// The ground of a bar with this chord.
-pub(crate) fn ground_of(style: LeadStyle, chord: Chord, pool: &[u8]) -> Ground
-    requires { ⌜ (style .lo ≤ style .hi) × (style .hi < style .lo + 20) × (style .hi < 250) ⌝ }
-    ensures { λ r. ⌜ r ≡ groundOf style chord (now (pool .entry)) ⌝ }
+// The ground of a bar with this chord: `sung` has the scale's notes in the window.
+pub(crate) fn ground_of(style: LeadStyle, chord: Chord, sung: Tones) -> Ground
+    requires { ⌜ sung .n ≤ 20 ⌝ }
+    ensures { λ r. ⌜ r ≡ groundFrom style chord sung ⌝ }
 {
     let lo = style.lo;
     let hi = style.hi;
     let velocity = style.velocity;
     let notes = chord.notes;
-    let tones = tones_in(&notes, pool, NO_CLASS, lo, hi);
-    let rootless = tones_in(&notes, pool, chord.root_pc, lo, hi);
+    let tones = chord_tones(sung, &notes);
+    let rootless = without(tones, chord.root_pc);
     let strong = strong_of(tones, rootless);
     Ground {
         lo: lo,

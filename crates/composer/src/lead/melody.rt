@@ -3,13 +3,12 @@ ghost use mathlib.Core.Path.{_≡_};
 ghost use Prim.Native.Nat.{_+_, _-_, _≤_, _<_, max};
 ghost use lib.ListN.{length};
 ghost use Rattle.composer.specs.Lead.Tones.{noClass, tonesIn};
-ghost use Rattle.composer.specs.Lead.Melody.{velocityOf, stepOf, openingOf, singOf, singBarOf, startOf, openLineOf, melodyOf};
-ghost use Rattle.composer.specs.Lead.Sound.{Sound, Fit, Good, Ready};
+ghost use Rattle.composer.specs.Lead.Melody.{velocityOf, stepOf, firstOf, startOf, newLineOf, melodyOf};
+ghost use Rattle.composer.specs.Lead.Sound.{Sound, Fit, Ready};
 use crate::chord::Chord;
 use crate::chord::OCTAVE;
 use crate::lead::beats::Beats;
 use crate::lead::ground::Ground;
-use crate::lead::ground::NO_CLASS;
 use crate::lead::ground::ground_of;
 use crate::lead::line::Line;
 use crate::lead::line::Place;
@@ -18,8 +17,9 @@ use crate::lead::line::place_of;
 use crate::lead::pitch::pitch_of;
 use crate::lead::role::Role;
 use crate::lead::role::role_of;
+use crate::lead::tones::chord_tones;
 use crate::lead::tones::near;
-use crate::lead::tones::tones_in;
+use crate::lead::tones::scale_notes;
 use crate::style::LeadStyle;
 use streams::stream::NoiseStream;
 
@@ -97,59 +97,10 @@ fn step(pool: &[u8], g: Ground, l: Line, p: Place, first: u8) -> LeadStep
 }
 
 // The first note sung, or else the one that the line starts from.
-fn opening(m: Sung) -> u8
-    ensures { λ r. ⌜ r ≡ openingOf m ⌝ }
+fn opening(count: usize, start: u8, sung: u8) -> u8
+    ensures { λ r. ⌜ r ≡ firstOf count start sung ⌝ }
 {
-    let l = m.line;
-    if m.count == 0 {
-        l.prev
-    } else {
-        m.notes[0].note
-    }
-}
-
-// One note more.
-fn sing(pool: &[u8], g: Ground, bar: u8, b: Beats, m: Sung, i: usize) -> Sung
-    requires { ⌜ Sound (now pool) g ⌝ }
-    requires { ⌜ Good (now pool) (g .lo) (g .hi) m ⌝ }
-    requires { ⌜ (i < 7) × (m .count < 56) ⌝ }
-    ensures { λ r. ⌜ r ≡ singOf (now (pool .entry)) g bar b m i ⌝ }
-{
-    let at = b.at;
-    let beat = at[i];
-    let place = place_of(bar, b, i);
-    let first = opening(m);
-    let line = m.line;
-    let t = step(pool, g, line, place, first);
-    let mut notes = m.notes;
-    let n = m.count;
-    notes[n] = LeadNote {
-        bar: bar,
-        beat: beat,
-        note: t.note,
-        vel: t.vel,
-    };
-    let next = t.line;
-    Sung {
-        notes: notes,
-        count: n + 1,
-        line: next,
-    }
-}
-
-// A bar's notes.
-fn sing_bar(pool: &[u8], g: Ground, bar: u8, b: Beats, m: Sung) -> Sung
-    requires { ⌜ Sound (now pool) g ⌝ }
-    requires { ⌜ Good (now pool) (g .lo) (g .hi) m ⌝ }
-    requires { ⌜ (b .n ≤ 7) × (m .count + b .n ≤ 56) ⌝ }
-    ensures { λ r. ⌜ r ≡ singBarOf (now (pool .entry)) g bar b m ⌝ }
-{
-    let n = b.n;
-    let mut out = m;
-    for i in 0..n {
-        out = sing(pool, g, bar, b, out, i);
-    }
-    out
+    if count == 0 { start } else { sung }
 }
 
 // The note that the line starts from.
@@ -160,25 +111,21 @@ fn start(style: LeadStyle, chord: Chord, pool: &[u8]) -> u8
     let lo = style.lo;
     let hi = style.hi;
     let notes = chord.notes;
-    let t = tones_in(&notes, pool, NO_CLASS, hi - OCTAVE, hi);
+    let top = scale_notes(pool, hi - OCTAVE, hi);
+    let t = chord_tones(top, &notes);
     near(t, (lo + hi) / 2 + START_LIFT)
 }
 
-// Nothing sung yet.
-fn open_line(first: u8, s: NoiseStream) -> Sung
-    ensures { λ r. ⌜ r ≡ openLineOf first s ⌝ }
+// The line before its first note.
+fn open_line(first: u8, s: NoiseStream) -> Line
+    ensures { λ r. ⌜ r ≡ newLineOf first s ⌝ }
 {
-    let line = Line {
+    Line {
         stream: s,
         from: first,
         prev: first,
         head: [0, 0],
         heads: 0,
-    };
-    Sung {
-        notes: [NO_LEAD; 56],
-        count: 0,
-        line: line,
     }
 }
 
@@ -194,12 +141,34 @@ pub(crate) fn melody(
     ensures { λ r. ⌜ r ≡ melodyOf s beats bars (now (pool .entry)) style ⌝ }
 {
     let first = start(style, bars[0], pool);
-    let mut out = open_line(first, s);
+    let sung = scale_notes(pool, style.lo, style.hi);
+    let mut notes = [NO_LEAD; 56];
+    let mut count: usize = 0;
+    let mut line = open_line(first, s);
     for k in 0..8usize {
         let c = bars[k];
         let b = beats[k];
-        let g = ground_of(style, c, pool);
-        out = sing_bar(pool, g, k as u8, b, out);
+        let bar = k as u8;
+        let at = b.at;
+        let n = b.n;
+        let g = ground_of(style, c, sung);
+        for i in 0..n {
+            let place = place_of(bar, b, i);
+            let first = opening(count, line.prev, notes[0].note);
+            let t = step(pool, g, line, place, first);
+            notes[count] = LeadNote {
+                bar: bar,
+                beat: at[i],
+                note: t.note,
+                vel: t.vel,
+            };
+            count += 1;
+            line = t.line;
+        }
     }
-    out
+    Sung {
+        notes: notes,
+        count: count,
+        line: line,
+    }
 }

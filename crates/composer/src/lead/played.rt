@@ -1,7 +1,7 @@
 // The melody as played: behind the grid, each note with an accent.
 ghost use mathlib.Core.Path.{_≡_};
-ghost use Prim.Native.Nat.{_≤_, _<_};
-ghost use Rattle.composer.specs.Lead.Played.{onGridOf, playOf, silenceOf, playedOf};
+ghost use Prim.Native.Nat.{_≤_};
+ghost use Rattle.composer.specs.Lead.Played.{onGridOf, playedNoteOf, playedOf};
 use crate::lead::LeadLane;
 use crate::lead::melody::LeadNote;
 use crate::lead::melody::Sung;
@@ -23,6 +23,12 @@ const LEAD_ACCENT: Spread = Spread {
     span: 0.16,
 };
 
+// A note as played, and the stream after its draws.
+pub struct PlayedNote {
+    pub note: Note,
+    pub stream: NoiseStream,
+}
+
 // A note's time on the grid, in seconds.
 fn on_grid(x: LeadNote, beat_s: f32) -> f32
     ensures { λ r. ⌜ r ≡ onGridOf x «beat_s» ⌝ }
@@ -31,43 +37,26 @@ fn on_grid(x: LeadNote, beat_s: f32) -> f32
     x.bar as f32 * bar_s + x.beat * beat_s
 }
 
-// One note more: its lag is drawn, then its accent.
-fn play(m: Sung, beat_s: f32, dur: f32, l: LeadLane, i: usize) -> LeadLane
-    requires { ⌜ (i < 56) × (l .count < 56) ⌝ }
-    ensures { λ r. ⌜ r ≡ playOf m «beat_s» dur l i ⌝ }
+// Its lag is drawn, then its accent.
+fn play(x: LeadNote, beat_s: f32, dur: f32, s: NoiseStream) -> PlayedNote
+    ensures { λ r. ⌜ r ≡ playedNoteOf x «beat_s» dur s ⌝ }
 {
-    let x = m.notes[i];
-    let s = l.stream;
     let lag = LEAD_LAG;
     let d = lag.after(on_grid(x, beat_s), s);
     let sd = d.stream;
     let accent = LEAD_ACCENT;
     let e = accent.draw(sd);
     let se = e.stream;
-    let mut notes = l.notes;
-    let n = l.count;
-    notes[n] = Note {
+    let note = Note {
         bar: x.bar,
         at: d.value,
         midi: x.note,
         vel: x.vel * e.value,
         dur: dur,
     };
-    LeadLane {
-        notes: notes,
-        count: n + 1,
+    PlayedNote {
+        note: note,
         stream: se,
-    }
-}
-
-// Nothing played yet.
-fn silence(s: NoiseStream) -> LeadLane
-    ensures { λ r. ⌜ r ≡ silenceOf s ⌝ }
-{
-    LeadLane {
-        notes: [NO_NOTE; 56],
-        count: 0,
-        stream: s,
     }
 }
 
@@ -77,11 +66,19 @@ pub(crate) fn played(m: Sung, beat_s: f32, dur: f32) -> LeadLane
     ensures { λ r. ⌜ r ≡ playedOf m «beat_s» dur ⌝ }
 {
     let line = m.line;
-    let s = line.stream;
     let n = m.count;
-    let mut out = silence(s);
+    let mut notes = [NO_NOTE; 56];
+    let mut stream = line.stream;
     for i in 0..n {
-        out = play(m, beat_s, dur, out, i);
+        let x = m.notes[i];
+        let p = play(x, beat_s, dur, stream);
+        let note = p.note;
+        notes[i] = note;
+        stream = p.stream;
     }
-    out
+    LeadLane {
+        notes: notes,
+        count: n,
+        stream: stream,
+    }
 }

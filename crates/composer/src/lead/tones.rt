@@ -2,7 +2,7 @@
 ghost use mathlib.Core.Path.{_≡_};
 ghost use Prim.Native.Nat.{_+_, _≤_, _<_};
 ghost use lib.ListN.{length};
-ghost use Rattle.composer.specs.Lead.Tones.{aboveOf, inChordOf, isSungOf, tonesInOf, strongOf, distanceOf, rankOf, closerOf, nearestOf, nearOf};
+ghost use Rattle.composer.specs.Lead.Tones.{aboveOf, inChordOf, scaleNotesOf, chordTonesOf, withoutOf, strongOf, distanceOf, rankOf, closerOf, nearestOf, nearOf};
 use crate::chord::OCTAVE;
 use crate::lead::scale::has;
 
@@ -33,30 +33,58 @@ fn in_chord(chord: &[u8], n: u8) -> bool
     false
 }
 
-// Whether n is a chord tone of the scale, and of another class than `avoid`.
-fn is_sung(chord: &[u8], pool: &[u8], avoid: u8, n: u8) -> bool
-    ensures { λ r. ⌜ r ≡ isSungOf (now (chord .entry)) (now (pool .entry)) avoid n ⌝ }
-{
-    let pc = n % OCTAVE;
-    let tone = in_chord(chord, n);
-    let sung = has(pool, pc);
-    tone & (pc != avoid) & sung
-}
-
-// The chord's tones of the scale from lo to hi, without the class `avoid`.
-pub(crate) fn tones_in(chord: &[u8], pool: &[u8], avoid: u8, lo: u8, hi: u8) -> Tones
+// The scale's notes from lo to hi.
+pub(crate) fn scale_notes(pool: &[u8], lo: u8, hi: u8) -> Tones
     requires { ⌜ (lo ≤ hi) × (hi < lo + 20) × (hi < 250) ⌝ }
-    ensures { λ r. ⌜ r ≡ tonesInOf (now (chord .entry)) (now (pool .entry)) avoid lo hi ⌝ }
+    ensures { λ r. ⌜ r ≡ scaleNotesOf (now (pool .entry)) lo hi ⌝ }
 {
     let mut at = [0u8; 20];
     let mut n: usize = 0;
     let mut x = lo;
     while x <= hi {
-        if is_sung(chord, pool, avoid, x) {
+        if has(pool, x % OCTAVE) {
             at[n] = x;
             n += 1;
         }
         x += 1;
+    }
+    Tones { at: at, n: n }
+}
+
+// Those of the notes that are the chord's.
+pub(crate) fn chord_tones(notes: Tones, chord: &[u8]) -> Tones
+    requires { ⌜ notes .n ≤ 20 ⌝ }
+    ensures { λ r. ⌜ r ≡ chordTonesOf notes (now (chord .entry)) ⌝ }
+{
+    let all = notes.at;
+    let count = notes.n;
+    let mut at = [0u8; 20];
+    let mut n: usize = 0;
+    for i in 0..count {
+        let x = all[i];
+        if in_chord(chord, x) {
+            at[n] = x;
+            n += 1;
+        }
+    }
+    Tones { at: at, n: n }
+}
+
+// Those of the tones that are of another class.
+pub(crate) fn without(tones: Tones, pc: u8) -> Tones
+    requires { ⌜ tones .n ≤ 20 ⌝ }
+    ensures { λ r. ⌜ r ≡ withoutOf tones pc ⌝ }
+{
+    let all = tones.at;
+    let count = tones.n;
+    let mut at = [0u8; 20];
+    let mut n: usize = 0;
+    for i in 0..count {
+        let x = all[i];
+        if x % OCTAVE != pc {
+            at[n] = x;
+            n += 1;
+        }
     }
     Tones { at: at, n: n }
 }

@@ -1,11 +1,7 @@
 -- The count decides. Assumes nothing.
 use borrow.Author.Tests.{eq-eqb, ne-eqb}
-use borrow.Author.Needs.{needs}
 use Rattle.composer.proofs.lead.melody.opening.Statement.{statement}
 use Rattle.composer.proofs.lead.melody.opening.Tie as tie
-
-element-copy-out-result : tie.Need-element-copy-out-result
-element-copy-out-result c = search needs
 
 returns : tie.Need-returns
 returns c = rw (eq-eqb _ _ (c .if1 .taken))
@@ -14,4 +10,4 @@ returns-2 : tie.Need-returns-2
 returns-2 c = rw (ne-eqb _ _ (c .if1 .left))
 
 pub opening-spec : {M : Type 1} → statement M
-opening-spec = tie.close (tie.spec element-copy-out-result returns returns-2)
+opening-spec = tie.close (tie.spec returns returns-2)

@@ -2,21 +2,26 @@
 use mathlib.Core.Path.{_≡_, _∙_}
 use Prim.Native.Nat.{_-_, max}
 use native.Mathlib.Omega.{arith}
-use Rattle.composer.specs.Lead.Tones.{noClass}
+use Rattle.composer.specs.Lead.Tones.{noClass, tonesIn}
 use Rattle.composer.specs.Lead.Melody.{startOf}
-use Rattle.composer.proofs.lead.TonesLaws.{tones-few, listed-packed}
+use Rattle.composer.proofs.lead.TonesLaws.{tones-few, scale-few, tones-from, listed-packed}
 use borrow.Author.Needs.{needs}
 use Rattle.composer.proofs.lead.melody.start.Statement.{statement}
 use Rattle.composer.proofs.lead.melody.start.Tie as tie
 
-slice-aggregate-tones-in : tie.Need-slice-aggregate-tones-in
-slice-aggregate-tones-in c = search needs
+sub-scale-notes : tie.Need-sub-scale-notes
+sub-scale-notes c = search needs
 
-sub-tones-in : tie.Need-sub-tones-in
-sub-tones-in c = search needs
+scale-notes-requires : tie.Need-scale-notes-requires
+scale-notes-requires c κs = search needs
 
-tones-in-requires : tie.Need-tones-in-requires
-tones-in-requires c κs = search needs
+slice-aggregate-chord-tones : tie.Need-slice-aggregate-chord-tones
+slice-aggregate-chord-tones c = search needs
+
+chord-tones-requires : tie.Need-chord-tones-requires
+chord-tones-requires c κs =
+    let a = c .before .before .before .before .args in
+    rw (c .before .scale-notes .ensures) (scale-few (a .pool .now) (a .style .hi - 12) (a .style .hi) (omega arith))
 
 add-near : tie.Need-add-near
 add-near c = search needs
@@ -26,25 +31,28 @@ add-near-2 c = search needs
 
 near-requires : tie.Need-near-requires
 near-requires c κs =
-    let a = c .before .before .before .before .args in
+    let a = c .before .before .before .before .before .args in
     let m : max (a .style .lo) (a .style .hi - 12) ≡ a .style .hi - 12 = omega arith in
-    let s = rw m at (c .before .before .before .before .pre .3) in
-    rw (c .tones-in .ensures) (s, tones-few (a .chord .notes) (a .pool .now) noClass (a .style .hi - 12) (a .style .hi) (omega arith))
+    let s = rw m at (c .before .before .before .before .before .pre .3) in
+    rw (c .chord-tones .ensures, c .before .before .scale-notes .ensures, tones-from (a .chord .notes) (a .pool .now) (a .style .hi - 12) (a .style .hi))
+    (s, tones-few (a .chord .notes) (a .pool .now) noClass (a .style .hi - 12) (a .style .hi) (omega arith))
 
 returns : tie.Need-returns
 unfolding startOf
 returns c =
-    let a = c .before .before .before .before .before .args in
+    let a = c .before .before .before .before .before .before .args in
     let m : max (a .style .lo) (a .style .hi - 12) ≡ a .style .hi - 12 = omega arith in
-    c .near .ensures ∙ rw (c .before .tones-in .ensures, listed-packed, m)
+    c .near .ensures
+    ∙ rw (c .before .chord-tones .ensures, c .before .before .before .scale-notes .ensures, tones-from (a .chord .notes) (a .pool .now) (a .style .hi - 12) (a .style .hi), listed-packed (tonesIn (a .chord .notes) (a .pool .now) noClass (a .style .hi - 12) (a .style .hi)), m)
 
 pub start-spec : {M : Type 1} → statement M
 start-spec =
     tie.close
     (tie.spec
-    slice-aggregate-tones-in
-    sub-tones-in
-    tones-in-requires
+    sub-scale-notes
+    scale-notes-requires
+    slice-aggregate-chord-tones
+    chord-tones-requires
     add-near
     add-near-2
     near-requires
