@@ -8,15 +8,28 @@ use lib.ListN.{length}
 use Rattle.laws.specs.Lists.{pad}
 use Rattle.streams.specs.Stage.{streamOf}
 use Rattle.streams.specs.declared.stage.Stage.{Stage}
-use Rattle.composer.specs.Compose.{beatSOf, stagesOf, composedOf, refusedOf, composeOf}
+use Rattle.streams.specs.declared.stream.NoiseStream.{NoiseStream}
+use Rattle.composer.specs.Bass.{bassOf}
+use Rattle.composer.specs.Compose.{beatSOf, songBy, composedOf, refusedOf, composeOf}
+use Rattle.composer.specs.Drums.{drumsOf}
 use Rattle.composer.specs.Harmony.{melodyPcsOf, harmonyOf, Tonal}
+use Rattle.composer.specs.Keys.{keysOf}
+use Rattle.composer.specs.Lead.{leadOf}
 use Rattle.composer.specs.Promise.{LanesPromise, BarsPromise, ScorePromise, DrawsPromise, SongPromise}
 use Rattle.composer.specs.Tempo.{beatsOf, tempoOf}
+use Rattle.composer.specs.Voice.{leadVoiceOf}
+use Rattle.composer.specs.declared.bass.BassLane.{BassLane}
+use Rattle.composer.specs.declared.drums.DrumLane.{DrumLane}
 use Rattle.composer.specs.declared.harmony.Harmony.{Harmony}
+use Rattle.composer.specs.declared.harmony.HarmonyDraw.{HarmonyDraw}
 use Rattle.composer.specs.declared.harmony.Scale.{Scale}
+use Rattle.composer.specs.declared.keys.KeysLane.{KeysLane}
+use Rattle.composer.specs.declared.lead.LeadLane.{LeadLane}
 use Rattle.composer.specs.declared.refusal.Outcome.{Outcome}
 use Rattle.composer.specs.declared.refusal.Refusal.{Refusal}
+use Rattle.composer.specs.declared.spread.Drawn.{Drawn}
 use Rattle.composer.specs.declared.style.Style.{Style}
+use Rattle.composer.specs.declared.voice.VoiceDraw.{VoiceDraw}
 use Rattle.composer.proofs.DrumsLaws.{drums-laid, drums-occur, drums-few, drums-counter}
 use Rattle.composer.proofs.HarmonyLaws.{harmony-tonal, harmony-count, harmony-counter, tonal-root}
 use Rattle.composer.proofs.PlainLaws.{plain-numbers}
@@ -31,6 +44,19 @@ pub unknown-style : (style seed : ℕ) → 2 ≤ style → composeOf style seed 
 unknown-style zero seed h = absurd (omega arith)
 unknown-style (suc zero) seed h = absurd (omega arith)
 unknown-style (suc (suc n)) seed h = refl
+
+-- the song of draws that are each its definition's
+pub composed-by : (style : Style) (seed : ℕ) {hs ts ls ks ds bs vs : NoiseStream} {h : HarmonyDraw} {t : Drawn} {l : LeadLane} {k : KeysLane} {d : DrumLane} {b : BassLane} {v : VoiceDraw}
+    → hs ≡ streamOf Stage.Harmony seed → h ≡ harmonyOf hs style
+    → ts ≡ streamOf Stage.Tempo seed → t ≡ tempoOf ts style
+    → ls ≡ streamOf Stage.Lead seed → l ≡ leadOf ls (h .harmony) style (beatSOf (t .value))
+    → ks ≡ streamOf Stage.Keys seed → k ≡ keysOf ks (h .harmony) style (beatSOf (t .value))
+    → ds ≡ streamOf Stage.Drums seed → d ≡ drumsOf ds style (beatSOf (t .value))
+    → bs ≡ streamOf Stage.Bass seed → b ≡ bassOf bs (h .harmony) style (beatSOf (t .value))
+    → vs ≡ streamOf Stage.LeadVoice seed → v ≡ leadVoiceOf vs style
+    → songBy style h t l k d b v ≡ composedOf style seed
+unfolding composedOf
+composed-by style seed hs h ts t ls l ks k ds d bs b vs v = rw (v, vs, b, bs, d, ds, k, ks, l, ls, t, ts, h, hs)
 
 -- five classes, or six
 pcs-least : (key : ℕ) (major : Bool) → 5 ≤ melodyPcsOf key major .n
@@ -59,7 +85,7 @@ module _ (style : Style) (seed : ℕ) where
   tonal = harmony-tonal (streamOf Stage.Harmony seed) style
 
   lanes-promise : LanesPromise (composedOf style seed .score)
-  unfolding composedOf stagesOf
+  unfolding composedOf songBy
   lanes-promise = record {
     lead = lead-laid (streamOf Stage.Lead seed) harmony tonal style beatS;
     keys = keys-laid (streamOf Stage.Keys seed) harmony style beatS;
@@ -68,7 +94,7 @@ module _ (style : Style) (seed : ℕ) where
   }
 
   bars-promise : BarsPromise (composedOf style seed .score)
-  unfolding composedOf stagesOf
+  unfolding composedOf songBy
   bars-promise = record {
     lead = lead-few (streamOf Stage.Lead seed) harmony tonal style beatS;
     keys = keys-few (streamOf Stage.Keys seed) harmony style beatS;
@@ -77,7 +103,7 @@ module _ (style : Style) (seed : ℕ) where
   }
 
   score-promise : ScorePromise style (composedOf style seed .score) (composedOf style seed .scale)
-  unfolding composedOf stagesOf tempoOf
+  unfolding composedOf songBy tempoOf
   score-promise =
       let within = tempo-within (streamOf Stage.Tempo seed) style in
       record {
@@ -100,7 +126,7 @@ module _ (style : Style) (seed : ℕ) where
       }
 
   draws-promise : DrawsPromise style (composedOf style seed .score) (composedOf style seed .counters)
-  unfolding composedOf stagesOf
+  unfolding composedOf songBy
   draws-promise = record {
     harmony = harmony-counter seed style;
     tempo = tempo-counter seed style;
@@ -110,7 +136,7 @@ module _ (style : Style) (seed : ℕ) where
   }
 
   pub song-promise : SongPromise style (composedOf style seed)
-  unfolding composedOf
+  unfolding composedOf songBy
   song-promise = record { done = refl; score = score-promise; draws = draws-promise }
 
 abbrev refusals : Outcome → ℕ
@@ -119,7 +145,7 @@ refusals (Outcome.Refused r) = 1
 
 -- whatever is not refused is a song
 pub done-promise : (style seed : ℕ) → composeOf style seed .outcome ≡ Outcome.Done → ScorePromise (composeOf style seed .score .style) (composeOf style seed .score) (composeOf style seed .scale)
-unfolding composedOf
+unfolding composedOf songBy
 done-promise zero seed h = song-promise Style.Hiphop seed .score
 done-promise (suc zero) seed h = song-promise Style.Sleep seed .score
 done-promise (suc (suc n)) seed h = let e : _≡_ {A = ℕ} 1 0 = ap refusals h in absurd (omega (arith, e))

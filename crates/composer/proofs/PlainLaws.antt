@@ -3,7 +3,7 @@ use Prim.Native.Nat.{ℕ}
 use Rattle.laws.specs.Floats.{f32Of}
 use Rattle.streams.specs.Stage.{streamOf}
 use Rattle.streams.specs.declared.stage.Stage.{Stage}
-use Rattle.composer.specs.Compose.{beatSOf, stagesOf, composedOf}
+use Rattle.composer.specs.Compose.{beatSOf, songBy, composedOf}
 use Rattle.composer.specs.Harmony.{harmonyOf}
 use Rattle.composer.specs.Plain.{PlainPromise}
 use Rattle.composer.specs.Tempo.{beatsOf, tempoOf}
@@ -16,7 +16,7 @@ use Rattle.composer.proofs.keys.PlainLaws.{keys-plain}
 use Rattle.composer.proofs.lead.PlainLaws.{lead-plain}
 
 pub plain-numbers : (style : Style) (seed : ℕ) → PlainPromise (composedOf style seed .score)
-unfolding composedOf stagesOf tempoOf
+unfolding composedOf songBy tempoOf
 plain-numbers style seed =
     let h = harmonyOf (streamOf Stage.Harmony seed) style .harmony in
     let tonal = harmony-tonal (streamOf Stage.Harmony seed) style in

@@ -14,67 +14,67 @@ use Rattle.composer.specs.Note.{zero32, noNote, noHit}
 use Rattle.composer.specs.Refusal.{Answer, answerBy}
 use Rattle.composer.specs.Tempo.{tempoOf}
 use Rattle.composer.specs.Voice.{leadVoiceOf}
+use Rattle.composer.specs.declared.bass.BassLane.{BassLane}
 use Rattle.composer.specs.declared.compose.Composed.{Composed}
-use Rattle.composer.specs.declared.compose.Stages.{Stages}
+use Rattle.composer.specs.declared.drums.DrumLane.{DrumLane}
+use Rattle.composer.specs.declared.harmony.HarmonyDraw.{HarmonyDraw}
+use Rattle.composer.specs.declared.keys.KeysLane.{KeysLane}
+use Rattle.composer.specs.declared.lead.LeadLane.{LeadLane}
 use Rattle.composer.specs.declared.refusal.Outcome.{Outcome}
 use Rattle.composer.specs.declared.refusal.Refusal.{Refusal}
-use Rattle.composer.specs.declared.score.Counters.{Counters}
 use Rattle.composer.specs.declared.score.Score.{Score}
+use Rattle.composer.specs.declared.spread.Drawn.{Drawn}
 use Rattle.composer.specs.declared.style.Style.{Style}
 use Rattle.composer.specs.declared.voice.LeadVoice.{LeadVoice}
+use Rattle.composer.specs.declared.voice.VoiceDraw.{VoiceDraw}
 
 -- a beat is 60 / tempo
 abbrev pub beatSOf : Float → Float
 beatSOf bpm = div binary32 (ofBits binary32 0x4270_0000) bpm
 
--- what each stage draws; the lanes read harmony and tempo
-unfoldable pub stagesOf : Style → ℕ → Stages
-stagesOf style seed =
+-- the song of what each stage has drawn
+unfoldable pub songBy : Style → HarmonyDraw → Drawn → LeadLane → KeysLane → DrumLane → BassLane → VoiceDraw → Composed
+songBy style h t l k d b v = record {
+  outcome = Outcome.Done;
+  score = record {
+    style = style;
+    bpm = t .value;
+    «bar_chords» = h .harmony .bars;
+    lead = l .notes;
+    «lead_count» = l .count;
+    keys = k .notes;
+    «keys_count» = k .count;
+    hits = d .hits;
+    «hit_count» = d .count;
+    bass = b .notes;
+    «bass_count» = b .count;
+    «lead_voice» = v .voice;
+  };
+  scale = h .harmony .scale;
+  -- how many draws each stream has made
+  counters = record {
+    harmony = h .stream .counter;
+    tempo = t .stream .counter;
+    lead = l .stream .counter;
+    keys = k .stream .counter;
+    drums = d .stream .counter;
+    bass = b .stream .counter;
+    voice = v .stream .counter;
+  };
+}
+
+-- each stage draws from its own stream; the lanes read harmony and tempo
+unfoldable pub composedOf : Style → ℕ → Composed
+composedOf style seed =
     let h = harmonyOf (streamOf Stage.Harmony seed) style in
     let t = tempoOf (streamOf Stage.Tempo seed) style in
     let beatS = beatSOf (t .value) in
-    record {
-      harmony = h;
-      tempo = t;
-      lead = leadOf (streamOf Stage.Lead seed) (h .harmony) style beatS;
-      keys = keysOf (streamOf Stage.Keys seed) (h .harmony) style beatS;
-      drums = drumsOf (streamOf Stage.Drums seed) style beatS;
-      bass = bassOf (streamOf Stage.Bass seed) (h .harmony) style beatS;
-      voice = leadVoiceOf (streamOf Stage.LeadVoice seed) style;
-    }
-
-abbrev pub scoreBy : Style → Stages → Score
-scoreBy style t = record {
-  style = style;
-  bpm = t .tempo .value;
-  «bar_chords» = t .harmony .harmony .bars;
-  lead = t .lead .notes;
-  «lead_count» = t .lead .count;
-  keys = t .keys .notes;
-  «keys_count» = t .keys .count;
-  hits = t .drums .hits;
-  «hit_count» = t .drums .count;
-  bass = t .bass .notes;
-  «bass_count» = t .bass .count;
-  «lead_voice» = t .voice .voice;
-}
-
--- how many draws each stream has made
-abbrev pub countersBy : Stages → Counters
-countersBy t = record {
-  harmony = t .harmony .stream .counter;
-  tempo = t .tempo .stream .counter;
-  lead = t .lead .stream .counter;
-  keys = t .keys .stream .counter;
-  drums = t .drums .stream .counter;
-  bass = t .bass .stream .counter;
-  voice = t .voice .stream .counter;
-}
-
-unfoldable pub composedOf : Style → ℕ → Composed
-composedOf style seed =
-    let t = stagesOf style seed in
-    record { outcome = Outcome.Done; score = scoreBy style t; scale = t .harmony .harmony .scale; counters = countersBy t }
+    let lead = leadOf (streamOf Stage.Lead seed) (h .harmony) style beatS in
+    let keys = keysOf (streamOf Stage.Keys seed) (h .harmony) style beatS in
+    let drums = drumsOf (streamOf Stage.Drums seed) style beatS in
+    let bass = bassOf (streamOf Stage.Bass seed) (h .harmony) style beatS in
+    let voice = leadVoiceOf (streamOf Stage.LeadVoice seed) style in
+    songBy style h t lead keys drums bass voice
 
 -- ---- a refusal, beside nothing
 abbrev pub noScore : Score

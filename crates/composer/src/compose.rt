@@ -1,17 +1,12 @@
 // A song of a style and a seed: each stage draws from its own stream.
 ghost use mathlib.Core.Path.{_≡_};
-ghost use Rattle.composer.specs.Compose.{stagesOf, scoreBy, countersBy, composedOf, noScore, refusedOf, composeOf};
-use crate::bass::BassLane;
+ghost use Rattle.composer.specs.Compose.{composedOf, noScore, refusedOf, composeOf};
 use crate::bass::bass;
 use crate::chord::NO_CHORD;
-use crate::drums::DrumLane;
 use crate::drums::drums;
-use crate::harmony::HarmonyDraw;
 use crate::harmony::Scale;
 use crate::harmony::harmony_of;
-use crate::keys::KeysLane;
 use crate::keys::keys;
-use crate::lead::LeadLane;
 use crate::lead::lead;
 use crate::note::NO_HIT;
 use crate::note::NO_NOTE;
@@ -19,11 +14,9 @@ use crate::refusal::Outcome;
 use crate::refusal::Refusal;
 use crate::score::Counters;
 use crate::score::Score;
-use crate::spread::Drawn;
 use crate::style::Style;
 use crate::tempo::tempo;
 use crate::voice::LeadVoice;
-use crate::voice::VoiceDraw;
 use crate::voice::lead_voice;
 use streams::stage::Stage;
 
@@ -35,19 +28,9 @@ pub struct Composed {
     pub counters: Counters,
 }
 
-// What each stage has drawn.
-pub struct Stages {
-    pub harmony: HarmonyDraw,
-    pub tempo: Drawn,
-    pub lead: LeadLane,
-    pub keys: KeysLane,
-    pub drums: DrumLane,
-    pub bass: BassLane,
-    pub voice: VoiceDraw,
-}
-
-fn stages_of(style: Style, seed: u64) -> Stages
-    ensures { λ r. ⌜ r ≡ stagesOf style seed ⌝ }
+// Each stage in turn, and the song of what they have drawn.
+fn composed_of(style: Style, seed: u64) -> Composed
+    ensures { λ r. ⌜ r ≡ composedOf style seed ⌝ }
 {
     let hs = Stage::Harmony.stream(seed);
     let hd = harmony_of(hs, style);
@@ -65,71 +48,36 @@ fn stages_of(style: Style, seed: u64) -> Stages
     let bd = bass(bs, h, style, beat_s);
     let vs = Stage::LeadVoice.stream(seed);
     let vd = lead_voice(vs, style);
-    Stages {
-        harmony: hd,
-        tempo: td,
-        lead: ld,
-        keys: kd,
-        drums: dd,
-        bass: bd,
-        voice: vd,
-    }
-}
-
-fn score_by(style: Style, t: Stages) -> Score
-    ensures { λ r. ⌜ r ≡ scoreBy style t ⌝ }
-{
-    let harmony = t.harmony.harmony;
-    let bars = harmony.bars;
-    let tempo = t.tempo;
-    let l = t.lead;
-    let lead = l.notes;
-    let k = t.keys;
-    let keys = k.notes;
-    let d = t.drums;
-    let hits = d.hits;
-    let b = t.bass;
-    let bass = b.notes;
-    let v = t.voice;
-    let voice = v.voice;
-    Score {
+    let bars = h.bars;
+    let scale = h.scale;
+    let lead_notes = ld.notes;
+    let keys_notes = kd.notes;
+    let hits = dd.hits;
+    let bass_notes = bd.notes;
+    let voice = vd.voice;
+    let score = Score {
         style: style,
-        bpm: tempo.value,
+        bpm: td.value,
         bar_chords: bars,
-        lead: lead,
-        lead_count: l.count,
-        keys: keys,
-        keys_count: k.count,
+        lead: lead_notes,
+        lead_count: ld.count,
+        keys: keys_notes,
+        keys_count: kd.count,
         hits: hits,
-        hit_count: d.count,
-        bass: bass,
-        bass_count: b.count,
+        hit_count: dd.count,
+        bass: bass_notes,
+        bass_count: bd.count,
         lead_voice: voice,
-    }
-}
-
-fn counters_by(t: Stages) -> Counters
-    ensures { λ r. ⌜ r ≡ countersBy t ⌝ }
-{
-    Counters {
-        harmony: t.harmony.stream.counter,
-        tempo: t.tempo.stream.counter,
-        lead: t.lead.stream.counter,
-        keys: t.keys.stream.counter,
-        drums: t.drums.stream.counter,
-        bass: t.bass.stream.counter,
-        voice: t.voice.stream.counter,
-    }
-}
-
-fn composed_of(style: Style, seed: u64) -> Composed
-    ensures { λ r. ⌜ r ≡ composedOf style seed ⌝ }
-{
-    let t = stages_of(style, seed);
-    let score = score_by(style, t);
-    let harmony = t.harmony.harmony;
-    let scale = harmony.scale;
-    let counters = counters_by(t);
+    };
+    let counters = Counters {
+        harmony: hd.stream.counter,
+        tempo: td.stream.counter,
+        lead: ld.stream.counter,
+        keys: kd.stream.counter,
+        drums: dd.stream.counter,
+        bass: bd.stream.counter,
+        voice: vd.stream.counter,
+    };
     Composed {
         outcome: Outcome::Done,
         score: score,
