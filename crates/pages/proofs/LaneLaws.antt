@@ -1,15 +1,18 @@
 -- A score's lanes in bytes: each event has its lane's width and stands at its place, its first byte is its bar, and the events of one
 -- bar stand together. Assumes nothing.
-use mathlib.Core.Path.{_≡_, refl, ap, _∙_}
-use mathlib.Core.Bool.{Bool, true, false}
-use mathlib.Core.List.{List, [], map}
-use Prim.Native.Nat.{ℕ, _+_, _-_, _*_, _≤_, _<_}
+use mathlib.Core.Path.{_≡_, refl, sym, ap, _∙_}
+use mathlib.Core.Bool.{Bool, true, false, cond}
+use mathlib.Core.List.{List, [], _∷_, _++_, map}
+use Prim.Native.Nat.{ℕ, zero, suc, _+_, _-_, _*_, _≤_, _<_}
+use native.Mathlib.Nat.{not-suc-le-zero, le-of-suc-le-suc}
 use native.Mathlib.Omega.{arith}
-use lib.Dec.{eqb}
-use lib.ListN.{length, getD, take}
-use lib.Seq.{take-all}
+use borrow.Author.Tests.{ltb-false, leb-true, le-ltb}
+use lib.Dec.{eqb, ltb}
+use lib.ListN.{length, getD, take, drop}
+use lib.Seq.{take-all, length-take-le}
 use Rattle.laws.specs.Lists.{joined}
 use Rattle.laws.specs.Sorts.{count, All, Sorted}
+use Rattle.laws.specs.Writes.{Wrote}
 use Rattle.composer.specs.Note.{pastNote, noteBar, pastHit, hitBar}
 use Rattle.composer.specs.Promise.{LanesPromise}
 use Rattle.composer.specs.declared.note.Hit.{Hit}
@@ -18,11 +21,12 @@ use Rattle.composer.specs.declared.score.Score.{Score}
 use Rattle.pages.specs.Lane.{widthOf, countIn, noteBytes, hitBytes, barIn, eventsOf, runOf, earlier, drawnFor, runIn}
 use Rattle.pages.specs.Page.{shown, barSize}
 use Rattle.pages.specs.declared.lane.Lane.{Lane}
-use Rattle.laws.proofs.Counts.{count-most, count-filter, count-map, all-kept}
-use Rattle.laws.proofs.Joins.{length-joined}
+use Rattle.laws.proofs.Counts.{count-most, count-filter, count-map, count-on, count-none, all-kept}
+use Rattle.laws.proofs.Joins.{length-joined, times-on, joined-run-on}
 use Rattle.laws.proofs.Keyed.{by, count-below, run-of-key, rises-sorted, sorted-map}
 use Rattle.laws.proofs.Lists.{length-map-take, map-take-at}
-use Rattle.laws.proofs.Sorts.{all-every, all-map}
+use Rattle.laws.proofs.Sorts.{all-every, all-map, all-sub}
+use Rattle.laws.proofs.Writes.{wrote-then, wrote-as}
 
 -- ---- one event
 pub note-width : (n : Note) → length (noteBytes n) ≡ 14
@@ -54,9 +58,49 @@ widths s Lane.Keys = notes-wide (take (s .«keys_count») (s .keys))
 widths s Lane.Hits = hits-wide (take (s .«hit_count») (s .hits))
 widths s Lane.Bass = notes-wide (take (s .«bass_count») (s .bass))
 
+-- 65,535 is the most that a field's length can say
+pub width-small : (lane : Lane) (n : ℕ) → n ≤ 128 → widthOf lane * n < 65536
+width-small Lane.Lead n h = omega arith
+width-small Lane.Keys n h = omega arith
+width-small Lane.Hits n h = omega arith
+width-small Lane.Bass n h = omega arith
+
 -- the whole of a list as a run
 pub whole-run : (es : List (List ℕ)) (n : ℕ) → length es ≡ n → runOf (record { from = 0; to = n }) es ≡ es
 whole-run es n e = take-all (n - 0) es (omega arith)
+
+-- ---- a run of a lane of n events: written up to event i, and event i after it
+module _ {A : Type 0} (bytes : A → List ℕ) (d : A) (w : ℕ) (xs : List A) (n from i : ℕ) (begun : from ≤ i) (h : i < n) (k : n ≤ length xs) where
+  abbrev events : List (List ℕ)
+  events = map bytes (take n xs)
+
+  pub event-wrote : {b b′ b″ : List ℕ} {at o r : ℕ} → Wrote b b′ at o (w * (i - from)) (joined (take (i - from) (drop from events))) → Wrote b′ b″ o r w (bytes (getD xs i d))
+      → Wrote b b″ at r (w * (i + 1 - from)) (joined (take (i + 1 - from) (drop from events)))
+  event-wrote v e =
+      let on = joined-run-on events from i begun (omega (arith, h, length-map-take bytes xs n k)) in
+      let here = map-take-at bytes xs n i d [] h k in
+      wrote-as (sym (times-on w from i begun)) (ap (λ (l : List ℕ). joined (take (i - from) (drop from events)) ++ l) (sym here) ∙ sym on) (wrote-then v e)
+
+-- ---- entries below v in a list whose keys never fall
+module _ {A : Type 0} (f : A → ℕ) (v : ℕ) (d : A) where
+  abbrev below : A → Bool
+  below x = ltb (f x) v
+
+  none-below : (x : A) (xs : List A) → below x ≡ false → All (λ y. by f x y ≡ true) xs → All (λ y. below y ≡ false) xs
+  none-below x xs h a = all-sub (λ y. by f x y ≡ true) (λ y. below y ≡ false) (λ y l. le-ltb (f y) v (omega (arith, ltb-false (f x) v h, leb-true (f x) (f y) l))) xs a
+
+  -- if the first i are below and the next is not, there are i
+  below-first : (xs : List A) (i : ℕ) → Sorted (by f) xs → i < length xs → count below (take i xs) ≡ i → below (getD xs i d) ≡ false → count below xs ≡ i
+  below-first [] i s h c e = absurd (not-suc-le-zero h)
+  below-first (x ∷ xs) zero s h c e = rw e (omega (arith, count-none below xs (none-below x xs e (s .0))))
+  below-first (x ∷ xs) (suc i) s h c e = go (below x) c (λ q. below-first xs i (s .1) (le-of-suc-le-suc h) q e)
+    where
+      few : count below (take i xs) ≤ i
+      few = omega (arith, count-most below (take i xs), length-take-le i xs (omega (arith, le-of-suc-le-suc h)))
+
+      go : (t : Bool) → cond t 1 0 + count below (take i xs) ≡ suc i → (count below (take i xs) ≡ i → count below xs ≡ i) → cond t 1 0 + count below xs ≡ suc i
+      go true q r = omega (arith, r (omega (arith, q)))
+      go false q r = absurd (omega (arith, q, few))
 
 module _ (s : Score) (p : LanesPromise s) where
   pub length-events : (lane : Lane) → length (eventsOf s lane) ≡ countIn s lane
@@ -65,38 +109,28 @@ module _ (s : Score) (p : LanesPromise s) where
   length-events Lane.Hits = length-map-take hitBytes (s .hits) (s .«hit_count») (omega (arith, p .hits .few, p .hits .size))
   length-events Lane.Bass = length-map-take noteBytes (s .bass) (s .«bass_count») (omega (arith, p .bass .few, p .bass .size))
 
-  pub lead-event : (i : ℕ) → i < s .«lead_count» → getD (eventsOf s Lane.Lead) i [] ≡ noteBytes (getD (s .lead) i pastNote)
-  lead-event i h = map-take-at noteBytes (s .lead) (s .«lead_count») i pastNote [] h (omega (arith, p .lead .few, p .lead .size))
-
-  pub keys-event : (i : ℕ) → i < s .«keys_count» → getD (eventsOf s Lane.Keys) i [] ≡ noteBytes (getD (s .keys) i pastNote)
-  keys-event i h = map-take-at noteBytes (s .keys) (s .«keys_count») i pastNote [] h (omega (arith, p .keys .few, p .keys .size))
-
-  pub hits-event : (i : ℕ) → i < s .«hit_count» → getD (eventsOf s Lane.Hits) i [] ≡ hitBytes (getD (s .hits) i pastHit)
-  hits-event i h = map-take-at hitBytes (s .hits) (s .«hit_count») i pastHit [] h (omega (arith, p .hits .few, p .hits .size))
-
-  pub bass-event : (i : ℕ) → i < s .«bass_count» → getD (eventsOf s Lane.Bass) i [] ≡ noteBytes (getD (s .bass) i pastNote)
-  bass-event i h = map-take-at noteBytes (s .bass) (s .«bass_count») i pastNote [] h (omega (arith, p .bass .few, p .bass .size))
-
-  -- 65,535 is the most that a field's length can say
-  pub run-small : (lane : Lane) (n : ℕ) → n ≤ countIn s lane → widthOf lane * n < 65536
-  run-small Lane.Lead n h = omega (arith, p .lead .few)
-  run-small Lane.Keys n h = omega (arith, p .keys .few)
-  run-small Lane.Hits n h = omega (arith, p .hits .few)
-  run-small Lane.Bass n h = omega (arith, p .bass .few)
-
   pub count-small : (lane : Lane) → countIn s lane ≤ 128
   count-small Lane.Lead = omega (arith, p .lead .few)
   count-small Lane.Keys = omega (arith, p .keys .few)
   count-small Lane.Hits = omega (arith, p .hits .few)
   count-small Lane.Bass = omega (arith, p .bass .few)
 
+  pub run-small : (lane : Lane) (n : ℕ) → n ≤ countIn s lane → widthOf lane * n < 65536
+  run-small lane n h = width-small lane n (omega (arith, count-small lane))
+
   -- ---- bars
-  -- an event was drawn for one of the bars 0 to 7
-  pub event-bar : (lane : Lane) (i : ℕ) → i < countIn s lane → barIn (getD (eventsOf s lane) i []) ≤ 7
-  event-bar Lane.Lead i h = rw (lead-event i h, note-bar (getD (s .lead) i pastNote)) (p .lead .rises .most i h)
-  event-bar Lane.Keys i h = rw (keys-event i h, note-bar (getD (s .keys) i pastNote)) (p .keys .rises .most i h)
-  event-bar Lane.Hits i h = rw (hits-event i h, hit-bar (getD (s .hits) i pastHit)) (p .hits .rises .most i h)
-  event-bar Lane.Bass i h = rw (bass-event i h, note-bar (getD (s .bass) i pastNote)) (p .bass .rises .most i h)
+  -- an event's first byte is its entry's bar
+  pub lead-bar : (i : ℕ) → i < s .«lead_count» → barIn (getD (eventsOf s Lane.Lead) i []) ≡ getD (s .lead) i pastNote .bar
+  lead-bar i h = ap barIn (map-take-at noteBytes (s .lead) (s .«lead_count») i pastNote [] h (omega (arith, p .lead .few, p .lead .size))) ∙ note-bar (getD (s .lead) i pastNote)
+
+  pub keys-bar : (i : ℕ) → i < s .«keys_count» → barIn (getD (eventsOf s Lane.Keys) i []) ≡ getD (s .keys) i pastNote .bar
+  keys-bar i h = ap barIn (map-take-at noteBytes (s .keys) (s .«keys_count») i pastNote [] h (omega (arith, p .keys .few, p .keys .size))) ∙ note-bar (getD (s .keys) i pastNote)
+
+  pub hits-bar : (i : ℕ) → i < s .«hit_count» → barIn (getD (eventsOf s Lane.Hits) i []) ≡ getD (s .hits) i pastHit .bar
+  hits-bar i h = ap barIn (map-take-at hitBytes (s .hits) (s .«hit_count») i pastHit [] h (omega (arith, p .hits .few, p .hits .size))) ∙ hit-bar (getD (s .hits) i pastHit)
+
+  pub bass-bar : (i : ℕ) → i < s .«bass_count» → barIn (getD (eventsOf s Lane.Bass) i []) ≡ getD (s .bass) i pastNote .bar
+  bass-bar i h = ap barIn (map-take-at noteBytes (s .bass) (s .«bass_count») i pastNote [] h (omega (arith, p .bass .few, p .bass .size))) ∙ note-bar (getD (s .bass) i pastNote)
 
   -- bars never fall along a lane
   pub bars-sorted : (lane : Lane) → Sorted (by barIn) (eventsOf s lane)
@@ -108,6 +142,29 @@ module _ (s : Score) (p : LanesPromise s) where
       sorted-map hitBar barIn hitBytes hit-bar (take (s .«hit_count») (s .hits)) (rises-sorted hitBar pastHit (s .hits) (s .«hit_count») 7 (omega (arith, p .hits .few, p .hits .size)) (p .hits .rises))
   bars-sorted Lane.Bass =
       sorted-map noteBar barIn noteBytes note-bar (take (s .«bass_count») (s .bass)) (rises-sorted noteBar pastNote (s .bass) (s .«bass_count») 7 (omega (arith, p .bass .few, p .bass .size)) (p .bass .rises))
+
+  -- ---- events before a bar: the first i are
+  -- so is event i
+  pub before-on : (lane : Lane) (bar i : ℕ) → i < countIn s lane → i ≡ count (earlier bar) (take i (eventsOf s lane)) → ltb (barIn (getD (eventsOf s lane) i [])) bar ≡ true
+      → i + 1 ≡ count (earlier bar) (take (i + 1) (eventsOf s lane))
+  before-on lane bar i h c e =
+      let on = count-on (earlier bar) (eventsOf s lane) i [] (omega (arith, length-events lane)) in
+      sym (on ∙ rw e (omega (arith, c)))
+
+  -- event i is not, nor is any after it
+  pub before-first : (lane : Lane) (bar i : ℕ) → i < countIn s lane → i ≡ count (earlier bar) (take i (eventsOf s lane)) → ltb (barIn (getD (eventsOf s lane) i [])) bar ≡ false
+      → i ≡ count (earlier bar) (eventsOf s lane)
+  before-first lane bar i h c e = sym (below-first barIn bar [] (eventsOf s lane) i (bars-sorted lane) (omega (arith, length-events lane)) (sym c) e)
+
+  -- nor are the first i of the next bar or later
+  pub before-next : (lane : Lane) (bar i : ℕ) → i ≤ countIn s lane → i ≡ count (earlier bar) (take i (eventsOf s lane)) → i ≡ count (earlier (bar + 1)) (take i (eventsOf s lane))
+  before-next lane bar i h c =
+      let es = take i (eventsOf s lane) in
+      omega (arith, c, count-below barIn bar es, count-most (earlier (bar + 1)) es, length-take-le i (eventsOf s lane) (omega (arith, h, length-events lane)))
+
+  -- there is no event i
+  pub before-last : (lane : Lane) (bar i : ℕ) → countIn s lane ≤ i → i ≡ count (earlier bar) (take i (eventsOf s lane)) → i ≡ count (earlier bar) (eventsOf s lane)
+  before-last lane bar i h c = c ∙ ap (count (earlier bar)) (take-all i (eventsOf s lane) (omega (arith, length-events lane)))
 
   -- the run of a bar's events is what was drawn for it
   pub run-drawn : (lane : Lane) (on : Bool) (bar : ℕ) → runOf (runIn s lane on bar) (eventsOf s lane) ≡ shown on (drawnFor bar (eventsOf s lane))

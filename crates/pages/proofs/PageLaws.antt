@@ -2,10 +2,12 @@
 use mathlib.Core.Path.{_≡_, refl, ap, _∙_}
 use mathlib.Core.Bool.{Bool, true, false}
 use mathlib.Core.List.{List, [], _++_}
-use Prim.Native.Nat.{ℕ, zero, suc, _+_, _≤_, _<_}
+use Prim.Native.Nat.{ℕ, zero, suc, _+_, _*_, _≤_, _<_}
 use native.Mathlib.Omega.{arith}
 use lib.ListN.{length, getD, take, length-append, List·getD-map}
 use Rattle.laws.specs.Lists.{joined}
+use Rattle.laws.specs.Writes.{Wrote}
+use Rattle.laws.proofs.Writes.{wrote-as}
 use Rattle.composer.specs.Chord.{pastChord}
 use Rattle.composer.specs.Compose.{composedOf, composeOf}
 use Rattle.composer.specs.Form.Ask.{playsOf, playsAnswered}
@@ -26,12 +28,13 @@ use Rattle.composer.proofs.form.AskLaws.{plays-past}
 use Rattle.composer.proofs.form.SongLaws.{arranged-sound}
 use Rattle.pages.specs.Answer.{Writes, Declines, bytesOf}
 use Rattle.pages.specs.Bytes.{field}
-use Rattle.pages.specs.Lane.{noteBytes, hitBytes, eventsOf, drawnFor}
-use Rattle.pages.specs.Page.{Chorded, loopBarOf, shown, chordField, barField, pageBytes, chordSize, barSize, pageSize, pageBy, pageOf, pageAsked}
+use Rattle.pages.specs.Lane.{tagOf, widthOf, countIn, noteBytes, hitBytes, eventsOf, runOf, Held, runSize, drawnFor, runIn}
+use Rattle.pages.specs.Page.{Chorded, loopBarOf, shown, chordField, barField, pageBytes, chordSize, barSize, pageSize, runsIn, runsSize, pageBy, pageOf, pageAsked}
 use Rattle.pages.specs.declared.lane.Lane.{Lane}
+use Rattle.pages.specs.declared.lane.Run.{Run}
 use Rattle.pages.proofs.AnswerLaws.{asked-most}
 use Rattle.pages.proofs.BytesLaws.{length-field}
-use Rattle.pages.proofs.LaneLaws.{note-bar, hit-bar, run-within, run-length, run-small, drawn-count, shown-size}
+use Rattle.pages.proofs.LaneLaws.{note-bar, hit-bar, count-small, run-drawn, run-within, run-length, drawn-count, shown-size}
 
 -- a bar's chord has four notes
 pub chord-notes : (s : Score) → Chorded s → (bar : ℕ) → bar < 8 → length (getD (notesOf (s .«bar_chords»)) bar []) ≡ 4
@@ -44,10 +47,6 @@ chord-length s p false bar h = length-field 0x03 []
 module _ (s : Score) (lane : Lane) where
   bar-length : (on : Bool) (bar tag : ℕ) → length (field tag (joined (shown on (drawnFor bar (eventsOf s lane))))) ≡ 3 + barSize s lane on bar
   bar-length on bar tag = length-field tag (joined (shown on (drawnFor bar (eventsOf s lane)))) ∙ ap (λ (n : ℕ). 3 + n) (shown-size s lane on bar)
-
-  -- a bar's events are few bytes
-  pub bar-small : LanesPromise s → (on : Bool) (bar : ℕ) → barSize s lane on bar < 65536
-  bar-small p on bar = run-small s p lane (length (shown on (drawnFor bar (eventsOf s lane)))) (omega (arith, run-within s p lane on bar, run-length s p lane on bar))
 
 -- the length of a page, by the counts of its events
 pub page-length : (s : Score) → Chorded s → (p : Plays) (bar : ℕ) → bar < 8 → length (pageBytes s p bar) ≡ pageSize s p bar
@@ -69,6 +68,32 @@ page-length s q p bar h =
       bar-length s Lane.Hits (p .drums) bar 7,
       bar-length s Lane.Bass (p .bass) bar 8,
     )
+
+-- ---- by the runs of its events
+module _ (s : Score) (promise : LanesPromise s) where
+  pub run-held : (lane : Lane) (on : Bool) (bar : ℕ) → Held (runIn s lane on bar)
+  run-held lane on bar = (run-within s promise lane on bar .0, omega (arith, run-within s promise lane on bar, count-small s promise lane))
+
+  pub runs-size : (p : Plays) (bar : ℕ) → runsSize (p .pad) (runsIn s p bar) ≡ pageSize s p bar
+  runs-size p bar =
+      rw (
+        run-length s promise Lane.Lead (p .keys) bar,
+        run-length s promise Lane.Keys (p .keys) bar,
+        run-length s promise Lane.Hits (p .drums) bar,
+        run-length s promise Lane.Bass (p .bass) bar,
+      )
+
+  -- a run that is the bar's: within its lane, and as many bytes
+  pub run-fits : (lane : Lane) (on : Bool) (bar : ℕ) (run : Run) → run ≡ runIn s lane on bar → ((run .from ≤ run .to) × (run .to ≤ countIn s lane)) × (runSize lane run ≡ barSize s lane on bar)
+  run-fits lane on bar run e = rw (e, run-length s promise lane on bar) (run-within s promise lane on bar, refl)
+
+  -- and the bar's field
+  pub run-wrote : {b b′ : List ℕ} {at r : ℕ} (lane : Lane) (on : Bool) (bar : ℕ) (run : Run) → run ≡ runIn s lane on bar
+      → Wrote b b′ at r (3 + runSize lane run) (field (tagOf lane) (joined (runOf run (eventsOf s lane)))) → Wrote b b′ at r (3 + barSize s lane on bar) (barField s lane on bar)
+  run-wrote lane on bar run e =
+      wrote-as
+      (ap (λ (x : Run). 3 + runSize lane x) e ∙ ap (λ (n : ℕ). 3 + widthOf lane * n) (run-length s promise lane on bar))
+      (ap (λ (x : Run). field (tagOf lane) (joined (runOf x (eventsOf s lane)))) e ∙ ap (λ (l : List (List ℕ)). field (tagOf lane) (joined l)) (run-drawn s promise lane on bar))
 
 -- ---- at most
 shown-most : {A : Type 0} (on : Bool) (xs : List A) (m : ℕ) → length xs ≤ m → length (shown on xs) ≤ m

@@ -1,7 +1,7 @@
 -- A score's lanes in bytes. Definitions only.
 use mathlib.Core.Bool.{Bool, cond}
 use mathlib.Core.List.{List, _∷_, _++_, map}
-use Prim.Native.Nat.{ℕ, _+_, _-_}
+use Prim.Native.Nat.{ℕ, _+_, _-_, _*_, _≤_}
 use lib.Dec.{eqb, ltb}
 use lib.ListN.{getD, take, drop}
 use Rattle.laws.specs.Lists.{filterOf}
@@ -50,6 +50,13 @@ eventsOf s Lane.Bass = map noteBytes (take (s .«bass_count») (s .bass))
 abbrev pub runOf : Run → List (List ℕ) → List (List ℕ)
 runOf run es = take (run .to - run .from) (drop (run .from) es)
 
+-- no lane has more than 128 events
+abbrev pub Held : Run → Type 0
+Held run = (run .from ≤ run .to) × (run .to ≤ 128)
+
+abbrev pub runSize : Lane → Run → ℕ
+runSize lane run = widthOf lane * (run .to - run .from)
+
 -- an event's first byte is its bar
 abbrev pub barIn : List ℕ → ℕ
 barIn e = getD e 0 0
@@ -62,7 +69,9 @@ abbrev pub drawnFor : ℕ → List (List ℕ) → List (List ℕ)
 drawnFor bar es = filterOf (λ e. eqb (barIn e) bar) es
 
 -- where they stand in a lane whose bars never fall
+abbrev pub barRun : ℕ → List (List ℕ) → Run
+barRun bar es = record { from = count (earlier bar) es; to = count (earlier (bar + 1)) es }
+
+-- a silent layer's run is empty
 unfoldable pub runIn : Score → Lane → Bool → ℕ → Run
-runIn s lane on bar =
-    let es = eventsOf s lane in
-    cond on (record { from = count (earlier bar) es; to = count (earlier (bar + 1)) es }) (record { from = 0; to = 0 })
+runIn s lane on bar = cond on (barRun bar (eventsOf s lane)) (record { from = 0; to = 0 })

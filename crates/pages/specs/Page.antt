@@ -16,8 +16,9 @@ use Rattle.composer.specs.declared.form.plays.Plays.{Plays}
 use Rattle.composer.specs.declared.score.Score.{Score}
 use Rattle.pages.specs.Answer.{Asked, Writes, Declines, askedBy}
 use Rattle.pages.specs.Bytes.{field}
-use Rattle.pages.specs.Lane.{tagOf, widthOf, eventsOf, drawnFor}
+use Rattle.pages.specs.Lane.{tagOf, widthOf, eventsOf, runSize, drawnFor, runIn}
 use Rattle.pages.specs.declared.lane.Lane.{Lane}
+use Rattle.pages.specs.declared.page.Runs.{Runs}
 
 -- song bar b shows this loop bar
 abbrev pub loopBarOf : Form → ℕ → ℕ
@@ -59,6 +60,20 @@ abbrev pub pageSize : Score → Plays → ℕ → ℕ
 pageSize s p bar =
     15 + chordSize (p .pad) + barSize s Lane.Lead (p .keys) bar + barSize s Lane.Keys (p .keys) bar
     + barSize s Lane.Hits (p .drums) bar + barSize s Lane.Bass (p .bass) bar
+
+-- ---- the same by the runs of its events
+abbrev pub runsIn : Score → Plays → ℕ → Runs
+runsIn s p bar = record {
+  lead = runIn s Lane.Lead (p .keys) bar;
+  keys = runIn s Lane.Keys (p .keys) bar;
+  hits = runIn s Lane.Hits (p .drums) bar;
+  bass = runIn s Lane.Bass (p .bass) bar;
+}
+
+abbrev pub runsSize : Bool → Runs → ℕ
+runsSize pad runs =
+    15 + chordSize pad + runSize Lane.Lead (runs .lead) + runSize Lane.Keys (runs .keys)
+    + runSize Lane.Hits (runs .hits) + runSize Lane.Bass (runs .bass)
 
 -- a look-up that is refused is passed on
 abbrev pub pageBy : PlaysAnswer → Score → ℕ → Asked

@@ -1,15 +1,13 @@
 // A score's lanes in bytes: a note is bar, time, pitch, velocity, duration; a hit is bar, kind, time, gain.
-ghost use mathlib.Core.Bool.{cond};
-ghost use mathlib.Core.List.{[]};
 ghost use mathlib.Core.Path.{_≡_};
 ghost use Prim.Native.Nat.{_+_, _-_, _*_, _<_, _≤_};
-ghost use lib.ListN.{length, getD};
+ghost use lib.ListN.{length};
 ghost use Rattle.laws.specs.Lists.{joined};
-ghost use Rattle.laws.specs.Sorts.{count};
 ghost use Rattle.laws.specs.Writes.{Wrote};
 ghost use Rattle.composer.specs.Promise.{LanesPromise};
 ghost use Rattle.pages.specs.Bytes.{field};
-ghost use Rattle.pages.specs.Lane.{tagOf, widthOf, countIn, noteBytes, hitBytes, barIn, eventsOf, runOf, earlier, runIn};
+ghost use Rattle.pages.specs.Lane.{tagOf, widthOf, countIn, noteBytes, hitBytes, eventsOf, runOf, barRun, runIn};
+ghost use Rattle.pages.specs.declared.lane.Lane.{Lane};
 use crate::put::put_f32;
 use crate::put::put_head;
 use crate::put::put_u8;
@@ -91,19 +89,76 @@ fn put_hit(buf: &mut [u8], at: usize, h: Hit) -> usize
     put_f32(buf, c, h.gain)
 }
 
-// Event i of a lane.
-fn put_event(buf: &mut [u8], at: usize, s: Score, lane: Lane, i: usize) -> usize
+// The lead's notes from `run.from` on, before `run.to`.
+fn put_lead(buf: &mut [u8], at: usize, s: Score, run: Run) -> usize
     requires { ⌜ LanesPromise s ⌝ }
-    requires { ⌜ i < countIn s lane ⌝ }
-    requires { ⌜ at + widthOf lane ≤ length (now buf) ⌝ }
-    ensures { λ r. ⌜ Wrote (now (buf .entry)) (now (buf .exit)) at r (widthOf lane) (getD (eventsOf s lane) i []) ⌝ }
+    requires { ⌜ (run .from ≤ run .to) × (run .to ≤ countIn s Lane.Lead) ⌝ }
+    requires { ⌜ at + 14 * (run .to - run .from) ≤ length (now buf) ⌝ }
+    ensures { λ r. ⌜ Wrote (now (buf .entry)) (now (buf .exit)) at r (14 * (run .to - run .from)) (joined (runOf run (eventsOf s Lane.Lead))) ⌝ }
 {
-    match lane {
-        Lane::Lead => put_note(buf, at, s.lead[i]),
-        Lane::Keys => put_note(buf, at, s.keys[i]),
-        Lane::Hits => put_hit(buf, at, s.hits[i]),
-        Lane::Bass => put_note(buf, at, s.bass[i]),
+    let lead = s.lead;
+    let mut o = at;
+    let mut i = run.from;
+    while i < run.to {
+        let note = lead[i];
+        o = put_note(buf, o, note);
+        i += 1;
     }
+    o
+}
+
+// The keys' notes from `run.from` on, before `run.to`.
+fn put_keys(buf: &mut [u8], at: usize, s: Score, run: Run) -> usize
+    requires { ⌜ LanesPromise s ⌝ }
+    requires { ⌜ (run .from ≤ run .to) × (run .to ≤ countIn s Lane.Keys) ⌝ }
+    requires { ⌜ at + 14 * (run .to - run .from) ≤ length (now buf) ⌝ }
+    ensures { λ r. ⌜ Wrote (now (buf .entry)) (now (buf .exit)) at r (14 * (run .to - run .from)) (joined (runOf run (eventsOf s Lane.Keys))) ⌝ }
+{
+    let keys = s.keys;
+    let mut o = at;
+    let mut i = run.from;
+    while i < run.to {
+        let note = keys[i];
+        o = put_note(buf, o, note);
+        i += 1;
+    }
+    o
+}
+
+// The drums' hits from `run.from` on, before `run.to`.
+fn put_hits(buf: &mut [u8], at: usize, s: Score, run: Run) -> usize
+    requires { ⌜ LanesPromise s ⌝ }
+    requires { ⌜ (run .from ≤ run .to) × (run .to ≤ countIn s Lane.Hits) ⌝ }
+    requires { ⌜ at + 10 * (run .to - run .from) ≤ length (now buf) ⌝ }
+    ensures { λ r. ⌜ Wrote (now (buf .entry)) (now (buf .exit)) at r (10 * (run .to - run .from)) (joined (runOf run (eventsOf s Lane.Hits))) ⌝ }
+{
+    let hits = s.hits;
+    let mut o = at;
+    let mut i = run.from;
+    while i < run.to {
+        let hit = hits[i];
+        o = put_hit(buf, o, hit);
+        i += 1;
+    }
+    o
+}
+
+// The bass's notes from `run.from` on, before `run.to`.
+fn put_bass(buf: &mut [u8], at: usize, s: Score, run: Run) -> usize
+    requires { ⌜ LanesPromise s ⌝ }
+    requires { ⌜ (run .from ≤ run .to) × (run .to ≤ countIn s Lane.Bass) ⌝ }
+    requires { ⌜ at + 14 * (run .to - run .from) ≤ length (now buf) ⌝ }
+    ensures { λ r. ⌜ Wrote (now (buf .entry)) (now (buf .exit)) at r (14 * (run .to - run .from)) (joined (runOf run (eventsOf s Lane.Bass))) ⌝ }
+{
+    let bass = s.bass;
+    let mut o = at;
+    let mut i = run.from;
+    while i < run.to {
+        let note = bass[i];
+        o = put_note(buf, o, note);
+        i += 1;
+    }
+    o
 }
 
 // A run of a lane's events.
@@ -113,13 +168,12 @@ fn put_events(buf: &mut [u8], at: usize, s: Score, lane: Lane, run: Run) -> usiz
     requires { ⌜ at + widthOf lane * (run .to - run .from) ≤ length (now buf) ⌝ }
     ensures { λ r. ⌜ Wrote (now (buf .entry)) (now (buf .exit)) at r (widthOf lane * (run .to - run .from)) (joined (runOf run (eventsOf s lane))) ⌝ }
 {
-    let mut o = at;
-    let mut i = run.from;
-    while i < run.to {
-        o = put_event(buf, o, s, lane, i);
-        i += 1;
+    match lane {
+        Lane::Lead => put_lead(buf, at, s, run),
+        Lane::Keys => put_keys(buf, at, s, run),
+        Lane::Hits => put_hits(buf, at, s, run),
+        Lane::Bass => put_bass(buf, at, s, run),
     }
-    o
 }
 
 // A run of a lane's events as the lane's field.
@@ -135,54 +189,101 @@ pub(crate) fn put_run(buf: &mut [u8], at: usize, s: Score, lane: Lane, run: Run)
     put_events(buf, a, s, lane, run)
 }
 
-// The bar that event i of a lane was drawn for.
-fn bar_at(s: Score, lane: Lane, i: usize) -> u8
+// The run of a lane's events that were drawn for a loop bar: bars never fall along a lane, so it begins
+// after those of earlier bars and ends before the first one of a later bar.
+fn lead_run(s: Score, bar: u8) -> Run
     requires { ⌜ LanesPromise s ⌝ }
-    requires { ⌜ i < countIn s lane ⌝ }
-    ensures { λ r. ⌜ r ≡ barIn (getD (eventsOf s lane) i []) ⌝ }
+    requires { ⌜ bar < 8 ⌝ }
+    ensures { λ r. ⌜ r ≡ barRun bar (eventsOf s Lane.Lead) ⌝ }
+{
+    let lead = s.lead;
+    let n = s.lead_count;
+    let mut from: usize = 0;
+    while from < n && lead[from].bar < bar {
+        from += 1;
+    }
+    let mut to = from;
+    while to < n && lead[to].bar < bar + 1 {
+        to += 1;
+    }
+    Run { from: from, to: to }
+}
+
+fn keys_run(s: Score, bar: u8) -> Run
+    requires { ⌜ LanesPromise s ⌝ }
+    requires { ⌜ bar < 8 ⌝ }
+    ensures { λ r. ⌜ r ≡ barRun bar (eventsOf s Lane.Keys) ⌝ }
+{
+    let keys = s.keys;
+    let n = s.keys_count;
+    let mut from: usize = 0;
+    while from < n && keys[from].bar < bar {
+        from += 1;
+    }
+    let mut to = from;
+    while to < n && keys[to].bar < bar + 1 {
+        to += 1;
+    }
+    Run { from: from, to: to }
+}
+
+fn hits_run(s: Score, bar: u8) -> Run
+    requires { ⌜ LanesPromise s ⌝ }
+    requires { ⌜ bar < 8 ⌝ }
+    ensures { λ r. ⌜ r ≡ barRun bar (eventsOf s Lane.Hits) ⌝ }
+{
+    let hits = s.hits;
+    let n = s.hit_count;
+    let mut from: usize = 0;
+    while from < n && hits[from].bar < bar {
+        from += 1;
+    }
+    let mut to = from;
+    while to < n && hits[to].bar < bar + 1 {
+        to += 1;
+    }
+    Run { from: from, to: to }
+}
+
+fn bass_run(s: Score, bar: u8) -> Run
+    requires { ⌜ LanesPromise s ⌝ }
+    requires { ⌜ bar < 8 ⌝ }
+    ensures { λ r. ⌜ r ≡ barRun bar (eventsOf s Lane.Bass) ⌝ }
+{
+    let bass = s.bass;
+    let n = s.bass_count;
+    let mut from: usize = 0;
+    while from < n && bass[from].bar < bar {
+        from += 1;
+    }
+    let mut to = from;
+    while to < n && bass[to].bar < bar + 1 {
+        to += 1;
+    }
+    Run { from: from, to: to }
+}
+
+fn bar_run(s: Score, lane: Lane, bar: u8) -> Run
+    requires { ⌜ LanesPromise s ⌝ }
+    requires { ⌜ bar < 8 ⌝ }
+    ensures { λ r. ⌜ r ≡ barRun bar (eventsOf s lane) ⌝ }
 {
     match lane {
-        Lane::Lead => s.lead[i].bar,
-        Lane::Keys => s.keys[i].bar,
-        Lane::Hits => s.hits[i].bar,
-        Lane::Bass => s.bass[i].bar,
+        Lane::Lead => lead_run(s, bar),
+        Lane::Keys => keys_run(s, bar),
+        Lane::Hits => hits_run(s, bar),
+        Lane::Bass => bass_run(s, bar),
     }
 }
 
-fn one_if(on: bool) -> usize
-    ensures { λ r. ⌜ r ≡ cond on 1 0 ⌝ }
-    ensures { λ r. ⌜ r ≤ 1 ⌝ }
-{
-    if on { 1 } else { 0 }
-}
-
-// How many events of a lane were drawn for the loop bars before `bar`.
-fn before_bar(s: Score, lane: Lane, bar: u8) -> usize
-    requires { ⌜ LanesPromise s ⌝ }
-    ensures { λ r. ⌜ r ≡ count (earlier bar) (eventsOf s lane) ⌝ }
-{
-    let n = lane.count(s);
-    let mut k: usize = 0;
-    let mut i: usize = 0;
-    while i < n {
-        let b = bar_at(s, lane, i);
-        k = k + one_if(b < bar);
-        i += 1;
-    }
-    k
-}
-
-// The run of the events that were drawn for a loop bar; a silent layer's is empty.
+// The run of the events that a bar shows; a silent layer's is empty.
 pub(crate) fn run_in(s: Score, lane: Lane, on: bool, bar: u8) -> Run
     requires { ⌜ LanesPromise s ⌝ }
     requires { ⌜ bar < 8 ⌝ }
     ensures { λ r. ⌜ r ≡ runIn s lane on bar ⌝ }
 {
     if on {
-        Run {
-            from: before_bar(s, lane, bar),
-            to: before_bar(s, lane, bar + 1),
-        }
+        bar_run(s, lane, bar)
     } else {
         Run { from: 0, to: 0 }
     }

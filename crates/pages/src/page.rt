@@ -5,9 +5,11 @@ ghost use lib.ListN.{length};
 ghost use Rattle.laws.specs.Writes.{Wrote};
 ghost use Rattle.composer.specs.Promise.{LanesPromise};
 ghost use Rattle.pages.specs.Answer.{Writes, writtenOf, bufferOf};
-ghost use Rattle.pages.specs.Page.{Chorded, loopBarOf, chordSize, chordField, barSize, barField, pageSize, pageBytes, pageOf, pageAsked};
+ghost use Rattle.pages.specs.Lane.{runSize, Held};
+ghost use Rattle.pages.specs.Page.{Chorded, loopBarOf, chordSize, chordField, runsIn, runsSize, pageSize, pageBytes, pageOf, pageAsked};
 use crate::answer::Written;
 use crate::lane::Lane;
+use crate::lane::Run;
 use crate::lane::put_run;
 use crate::lane::run_in;
 use crate::put::put_bytes;
@@ -56,55 +58,76 @@ fn put_chord(buf: &mut [u8], at: usize, s: Score, on: bool, bar: u8) -> usize
     put_bytes(buf, a, &notes)
 }
 
-// The bytes of a lane's events in one loop bar; a silent layer has none.
-fn bar_size(s: Score, lane: Lane, on: bool, bar: u8) -> usize
+// Where the events of one loop bar stand in each lane.
+pub struct Runs {
+    pub lead: Run,
+    pub keys: Run,
+    pub hits: Run,
+    pub bass: Run,
+}
+
+// Lead and keys both follow the keys' layer.
+fn runs_in(s: Score, p: Plays, bar: u8) -> Runs
     requires { ⌜ LanesPromise s ⌝ }
     requires { ⌜ bar < 8 ⌝ }
-    ensures { λ r. ⌜ r ≡ barSize s lane on bar ⌝ }
+    ensures { λ r. ⌜ r ≡ runsIn s p bar ⌝ }
+{
+    let lead = run_in(s, Lane::Lead, p.keys, bar);
+    let keys = run_in(s, Lane::Keys, p.keys, bar);
+    let hits = run_in(s, Lane::Hits, p.drums, bar);
+    let bass = run_in(s, Lane::Bass, p.bass, bar);
+    Runs {
+        lead: lead,
+        keys: keys,
+        hits: hits,
+        bass: bass,
+    }
+}
+
+// The bytes of a run of a lane's events.
+fn run_size(lane: Lane, run: Run) -> usize
+    requires { ⌜ Held run ⌝ }
+    ensures { λ r. ⌜ r ≡ runSize lane run ⌝ }
     ensures { λ r. ⌜ r < 65536 ⌝ }
 {
-    let run = run_in(s, lane, on, bar);
     let width = lane.width();
     width * (run.to - run.from)
 }
 
-// The field of a lane's events in one loop bar.
-fn put_bar(buf: &mut [u8], at: usize, s: Score, lane: Lane, on: bool, bar: u8) -> usize
-    requires { ⌜ LanesPromise s ⌝ }
-    requires { ⌜ bar < 8 ⌝ }
-    requires { ⌜ at + (3 + barSize s lane on bar) ≤ length (now buf) ⌝ }
-    ensures { λ r. ⌜ Wrote (now (buf .entry)) (now (buf .exit)) at r (3 + barSize s lane on bar) (barField s lane on bar) ⌝ }
+fn page_size(pad: bool, runs: Runs) -> usize
+    requires { ⌜ (Held (runs .lead) × Held (runs .keys)) × (Held (runs .hits) × Held (runs .bass)) ⌝ }
+    ensures { λ r. ⌜ r ≡ runsSize pad runs ⌝ }
 {
-    let run = run_in(s, lane, on, bar);
-    put_run(buf, at, s, lane, run)
+    let lead = runs.lead;
+    let keys = runs.keys;
+    let hits = runs.hits;
+    let bass = runs.bass;
+    let chord_bytes = chord_size(pad);
+    let lead_bytes = run_size(Lane::Lead, lead);
+    let keys_bytes = run_size(Lane::Keys, keys);
+    let hit_bytes = run_size(Lane::Hits, hits);
+    let bass_bytes = run_size(Lane::Bass, bass);
+    15 + chord_bytes + lead_bytes + keys_bytes + hit_bytes + bass_bytes
 }
 
-fn page_size(s: Score, p: Plays, bar: u8) -> usize
-    requires { ⌜ LanesPromise s ⌝ }
-    requires { ⌜ bar < 8 ⌝ }
-    ensures { λ r. ⌜ r ≡ pageSize s p bar ⌝ }
-{
-    let chord = chord_size(p.pad);
-    let lead = bar_size(s, Lane::Lead, p.keys, bar);
-    let keys = bar_size(s, Lane::Keys, p.keys, bar);
-    let hits = bar_size(s, Lane::Hits, p.drums, bar);
-    let bass = bar_size(s, Lane::Bass, p.bass, bar);
-    15 + chord + lead + keys + hits + bass
-}
-
-// Lead and keys both follow the keys' layer.
-fn put_page(buf: &mut [u8], s: Score, p: Plays, bar: u8) -> usize
+// The page of one loop bar by the runs of its events.
+fn put_page(buf: &mut [u8], s: Score, p: Plays, runs: Runs, bar: u8) -> usize
     requires { ⌜ LanesPromise s ⌝ }
     requires { ⌜ Chorded s ⌝ }
     requires { ⌜ bar < 8 ⌝ }
+    requires { ⌜ runs ≡ runsIn s p bar ⌝ }
     requires { ⌜ pageSize s p bar ≤ length (now buf) ⌝ }
     ensures { λ r. ⌜ Wrote (now (buf .entry)) (now (buf .exit)) 0 r (pageSize s p bar) (pageBytes s p bar) ⌝ }
 {
+    let lead = runs.lead;
+    let keys = runs.keys;
+    let hits = runs.hits;
+    let bass = runs.bass;
     let a = put_chord(buf, 0, s, p.pad, bar);
-    let b = put_bar(buf, a, s, Lane::Lead, p.keys, bar);
-    let c = put_bar(buf, b, s, Lane::Keys, p.keys, bar);
-    let d = put_bar(buf, c, s, Lane::Hits, p.drums, bar);
-    put_bar(buf, d, s, Lane::Bass, p.bass, bar)
+    let b = put_run(buf, a, s, Lane::Lead, lead);
+    let c = put_run(buf, b, s, Lane::Keys, keys);
+    let d = put_run(buf, c, s, Lane::Hits, hits);
+    put_run(buf, d, s, Lane::Bass, bass)
 }
 
 // The page of one loop bar and the layers that play, if the buffer is as long as this very page.
@@ -115,11 +138,12 @@ fn page_into(s: Score, p: Plays, bar: u8, buf: &mut [u8]) -> Written
     ensures { λ r. ⌜ r ≡ writtenOf (length (now (buf .entry))) (Writes (pageBytes s p bar)) ⌝ }
     ensures { λ r. ⌜ now (buf .exit) ≡ bufferOf (now (buf .entry)) (Writes (pageBytes s p bar)) ⌝ }
 {
-    let size = page_size(s, p, bar);
+    let runs = runs_in(s, p, bar);
+    let size = page_size(p.pad, runs);
     if buf.len() < size {
         return Written::Refused(Refusal::ShortBuffer);
     }
-    let n = put_page(buf, s, p, bar);
+    let n = put_page(buf, s, p, runs, bar);
     Written::Bytes(n)
 }
 

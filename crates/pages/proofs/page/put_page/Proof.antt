@@ -1,39 +1,72 @@
--- The five fields, one after another. Assumes nothing.
-use mathlib.Core.Path.{refl}
+-- The five fields, one after another; each run is that of the bar's events. Assumes nothing.
+use mathlib.Core.Path.{_≡_, refl, ap}
 use native.Mathlib.Omega.{arith}
 use Rattle.laws.proofs.Writes.{wrote-then, wrote-as, wrote-length}
+use Rattle.pages.specs.Lane.{runIn}
 use Rattle.pages.specs.Page.{pageBytes}
+use Rattle.pages.specs.declared.lane.Lane.{Lane}
+use Rattle.pages.specs.declared.page.Runs.{Runs}
+use Rattle.pages.proofs.PageLaws.{run-fits, run-wrote}
 use borrow.Author.Needs.{needs}
 use Rattle.pages.proofs.page.put_page.Statement.{statement}
 use Rattle.pages.proofs.page.put_page.Tie as tie
 
+lead-is : (d : tie.Start) → d .args .runs .lead ≡ runIn (d .args .s) Lane.Lead (d .args .p .keys) (d .args .bar)
+lead-is d = ap (λ (x : Runs). x .lead) (d .pre .1 .1 .1 .0)
+
+keys-is : (d : tie.Start) → d .args .runs .keys ≡ runIn (d .args .s) Lane.Keys (d .args .p .keys) (d .args .bar)
+keys-is d = ap (λ (x : Runs). x .keys) (d .pre .1 .1 .1 .0)
+
+hits-is : (d : tie.Start) → d .args .runs .hits ≡ runIn (d .args .s) Lane.Hits (d .args .p .drums) (d .args .bar)
+hits-is d = ap (λ (x : Runs). x .hits) (d .pre .1 .1 .1 .0)
+
+bass-is : (d : tie.Start) → d .args .runs .bass ≡ runIn (d .args .s) Lane.Bass (d .args .p .bass) (d .args .bar)
+bass-is d = ap (λ (x : Runs). x .bass) (d .pre .1 .1 .1 .0)
+
 put-chord-requires : tie.Need-put-chord-requires
 put-chord-requires c κs = search needs
 
-put-bar-requires : tie.Need-put-bar-requires
-put-bar-requires c κs = search needs
+put-run-requires : tie.Need-put-run-requires
+put-run-requires c κs =
+    let c1 = c .before .before .before in
+    let d = c1 .before .before .before .before .before .before .before in
+    let a = d .args in
+    let w = c1 .put-chord .ensures in
+    let f = run-fits (a .s) (d .pre .0) Lane.Lead (a .p .keys) (a .bar) (a .runs .lead) (lead-is d) in
+    (d .pre .0, (f .0, omega (arith, w .next, wrote-length w, f .1, d .pre .1 .1 .1 .1)))
 
-put-bar-requires-2 : tie.Need-put-bar-requires-2
-put-bar-requires-2 c κs = search needs
+put-run-requires-2 : tie.Need-put-run-requires-2
+put-run-requires-2 c κs =
+    let c2 = c .before .before .before in
+    let c1 = c2 .before .before .before .before in
+    let d = c1 .before .before .before .before .before .before .before in
+    let a = d .args in
+    let w = wrote-then (c1 .put-chord .ensures) (run-wrote (a .s) (d .pre .0) Lane.Lead (a .p .keys) (a .bar) (a .runs .lead) (lead-is d) (c2 .put-run .ensures)) in
+    let f = run-fits (a .s) (d .pre .0) Lane.Keys (a .p .keys) (a .bar) (a .runs .keys) (keys-is d) in
+    (d .pre .0, (f .0, omega (arith, w .next, wrote-length w, f .1, d .pre .1 .1 .1 .1)))
 
-put-bar-requires-3 : tie.Need-put-bar-requires-3
-put-bar-requires-3 c κs =
+put-run-requires-3 : tie.Need-put-run-requires-3
+put-run-requires-3 c κs =
     let c3 = c .before .before .before in
     let c2 = c3 .before .before .before .before in
     let c1 = c2 .before .before .before .before in
-    let d = c1 .before .before .before in
-    let w = wrote-then (c1 .put-chord .ensures) (wrote-then (c2 .put-bar .ensures) (c3 .put-bar2 .ensures)) in
-    (d .pre .0, (d .pre .1 .1 .0, omega (arith, w .next, wrote-length w, d .pre .1 .1 .1)))
+    let d = c1 .before .before .before .before .before .before .before in
+    let a = d .args in
+    let w = wrote-then (c1 .put-chord .ensures) (wrote-then (run-wrote (a .s) (d .pre .0) Lane.Lead (a .p .keys) (a .bar) (a .runs .lead) (lead-is d) (c2 .put-run .ensures)) (run-wrote (a .s) (d .pre .0) Lane.Keys (a .p .keys) (a .bar) (a .runs .keys) (keys-is d) (c3 .put-run2 .ensures))) in
+    let f = run-fits (a .s) (d .pre .0) Lane.Hits (a .p .drums) (a .bar) (a .runs .hits) (hits-is d) in
+    (d .pre .0, (f .0, omega (arith, w .next, wrote-length w, f .1, d .pre .1 .1 .1 .1)))
 
-put-bar-requires-4 : tie.Need-put-bar-requires-4
-put-bar-requires-4 c κs =
+put-run-requires-4 : tie.Need-put-run-requires-4
+put-run-requires-4 c κs =
     let c4 = c .before .before .before in
     let c3 = c4 .before .before .before .before in
     let c2 = c3 .before .before .before .before in
     let c1 = c2 .before .before .before .before in
-    let d = c1 .before .before .before in
-    let w = wrote-then (c1 .put-chord .ensures) (wrote-then (c2 .put-bar .ensures) (wrote-then (c3 .put-bar2 .ensures) (c4 .put-bar3 .ensures))) in
-    (d .pre .0, (d .pre .1 .1 .0, omega (arith, w .next, wrote-length w, d .pre .1 .1 .1)))
+    let d = c1 .before .before .before .before .before .before .before in
+    let a = d .args in
+    let w = wrote-then (c1 .put-chord .ensures) (wrote-then (run-wrote (a .s) (d .pre .0) Lane.Lead (a .p .keys) (a .bar) (a .runs .lead) (lead-is d) (c2 .put-run .ensures)) (wrote-then (run-wrote (a .s) (d .pre .0) Lane.Keys (a .p .keys) (a .bar) (a .runs .keys) (keys-is d) (c3 .put-run2 .ensures)) (run-wrote (a .s) (d .pre .0) Lane.Hits (a .p .drums) (a .bar) (a .runs .hits) (hits-is d) (c4 .put-run3 .ensures)))) in
+    let f = run-fits (a .s) (d .pre .0) Lane.Bass (a .p .bass) (a .bar) (a .runs .bass) (bass-is d) in
+    (d .pre .0, (f .0, omega (arith, w .next, wrote-length w, f .1, d .pre .1 .1 .1 .1)))
 
 same-length : tie.Need-same-length
 same-length c = search needs
@@ -46,17 +79,22 @@ returns c =
     let c3 = c4 .before .before .before .before in
     let c2 = c3 .before .before .before .before in
     let c1 = c2 .before .before .before .before in
-    wrote-as (omega arith) refl
-    (wrote-then (c1 .put-chord .ensures) (wrote-then (c2 .put-bar .ensures) (wrote-then (c3 .put-bar2 .ensures) (wrote-then (c4 .put-bar3 .ensures) (c5 .put-bar4 .ensures)))))
+    let d = c1 .before .before .before .before .before .before .before in
+    let a = d .args in
+    let lead = run-wrote (a .s) (d .pre .0) Lane.Lead (a .p .keys) (a .bar) (a .runs .lead) (lead-is d) (c2 .put-run .ensures) in
+    let keys = run-wrote (a .s) (d .pre .0) Lane.Keys (a .p .keys) (a .bar) (a .runs .keys) (keys-is d) (c3 .put-run2 .ensures) in
+    let hits = run-wrote (a .s) (d .pre .0) Lane.Hits (a .p .drums) (a .bar) (a .runs .hits) (hits-is d) (c4 .put-run3 .ensures) in
+    let bass = run-wrote (a .s) (d .pre .0) Lane.Bass (a .p .bass) (a .bar) (a .runs .bass) (bass-is d) (c5 .put-run4 .ensures) in
+    wrote-as (omega arith) refl (wrote-then (c1 .put-chord .ensures) (wrote-then lead (wrote-then keys (wrote-then hits bass))))
 
 pub put-page-spec : {M : Type 1} → statement M
 put-page-spec =
     tie.close
     (tie.spec
     put-chord-requires
-    put-bar-requires
-    put-bar-requires-2
-    put-bar-requires-3
-    put-bar-requires-4
+    put-run-requires
+    put-run-requires-2
+    put-run-requires-3
+    put-run-requires-4
     same-length
     returns)
