@@ -1,20 +1,11 @@
 //! Forms of other parts than were drawn, also malformed ones.
 
-use crate::compose::reach::form::{bars_of, made, plays_at};
+use crate::compose::reach::form::{Parts, bars_of, made, plays_at};
 use crate::compose::{Form, arrange};
 use crate::dsp::reach::{next_u64, stream};
 use crate::forms::{our_words, same_form, words_by, words_of};
 use crate::ours;
 use crate::tally::Tally;
-
-/// What a form is made of, its ends by number (reach/form.rs).
-#[derive(Clone, Copy, Debug)]
-pub struct Parts {
-    pub intro: u8,
-    pub phrases: u8,
-    pub outro: u8,
-    pub dip: bool,
-}
 
 /// Forms that document 01 has no refusal for.
 fn compare_sound(tally: &mut Tally, seed: u64, from: &Form, parts: Parts) {

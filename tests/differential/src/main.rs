@@ -14,6 +14,10 @@ mod style;
 #[allow(dead_code)]
 mod synth;
 
+// our library's own wrapper, of which the driver asks for the C functions
+#[allow(dead_code)]
+mod seqochanu;
+
 mod bytes;
 mod draws;
 mod forms;

@@ -1,7 +1,8 @@
-//! The exported functions of the crates `probe` and `seqochanu`, behind safe wrappers. A slice passes as
-//! a pointer and a length; no function asks more of its caller.
+//! The exported functions of the crates `probe` and `seqochanu` with their own numbers for answers, behind safe
+//! wrappers. A slice passes as a pointer and a length; no function asks more of its caller.
 
-use crate::made::Parts;
+use crate::compose::reach::form::Parts;
+use crate::seqochanu::raw::{seqochanu_bar_page, seqochanu_sheet};
 
 mod raw {
     unsafe extern "C" {
@@ -38,8 +39,6 @@ mod raw {
         pub fn probe_kicks(style: u8, seed: u64, out: *mut u64, len: usize);
         pub fn probe_made_kicks(words: *const u64, count: usize, out: *mut u64, len: usize);
         pub fn probe_counters(style: u8, seed: u64, out: *mut u64, len: usize) -> i64;
-        pub fn seqochanu_sheet(style: u8, seed: u64, buf: *mut u8, len: usize) -> i64;
-        pub fn seqochanu_bar_page(style: u8, seed: u64, bar: u64, buf: *mut u8, len: usize) -> i64;
     }
 }
 
@@ -129,9 +128,9 @@ pub fn counters(style: u8, seed: u64, out: &mut [u64]) -> i64 {
 }
 
 pub fn sheet(style: u8, seed: u64, buf: &mut [u8]) -> i64 {
-    unsafe { raw::seqochanu_sheet(style, seed, buf.as_mut_ptr(), buf.len()) }
+    unsafe { seqochanu_sheet(style, seed, buf.as_mut_ptr(), buf.len()) }
 }
 
 pub fn bar_page(style: u8, seed: u64, bar: u64, buf: &mut [u8]) -> i64 {
-    unsafe { raw::seqochanu_bar_page(style, seed, bar, buf.as_mut_ptr(), buf.len()) }
+    unsafe { seqochanu_bar_page(style, seed, bar, buf.as_mut_ptr(), buf.len()) }
 }

@@ -2,7 +2,6 @@
 
 use super::{DIP_P, Edge, End, Form, Layer, Outro, Plays, Stage, bars, chance};
 use crate::dsp::reach::{seed_of, stream};
-use crate::made::Parts;
 
 fn end_code(end: End) -> u8 {
     match end {
@@ -41,6 +40,15 @@ pub(crate) fn plays_at(form: &Form, bar: usize) -> u64 {
     };
     let layer = |l: Layer| u64::from(plays.has(l));
     layer(Layer::Pad) + 2 * layer(Layer::Keys) + 4 * layer(Layer::Drums) + 8 * layer(Layer::Bass)
+}
+
+/// What a form is made of, its ends by number.
+#[derive(Clone, Copy, Debug)]
+pub(crate) struct Parts {
+    pub(crate) intro: u8,
+    pub(crate) phrases: u8,
+    pub(crate) outro: u8,
+    pub(crate) dip: bool,
 }
 
 /// The end by its number: from 1 on plain, fading and filtering, 4 bars and then 8 of each.

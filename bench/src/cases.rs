@@ -1,0 +1,152 @@
+//! What is measured: each case, done by our libraries and by the Rust for the same song.
+
+use crate::compose::reach::STYLES;
+use crate::compose::song::{Song, song};
+use crate::compose::{Form, arrange};
+use crate::seqochanu::{self, PAGE_MOST, SHEET_MOST, Style};
+use crate::{sum, writer};
+use std::hint::black_box;
+
+mod raw {
+    #[link(name = "probe", kind = "static")]
+    unsafe extern "C" {
+        pub safe fn probe_song(style: u8, seed: u64) -> u64;
+    }
+}
+
+/// A song to be made, and how many bars it has, which a player has read on its sheet.
+#[derive(Clone, Copy)]
+pub struct Asked {
+    pub style: u8,
+    pub seed: u64,
+    pub bars: u64,
+}
+
+impl Asked {
+    /// Even seeds as they are, odd ones with their bits reversed, as tests/differential has them.
+    pub fn new(style: u8, i: u64) -> Self {
+        let seed = if i % 2 == 0 { i } else { i.reverse_bits() };
+        let bars = arrange(seed).bars() as u64;
+        Self { style, seed, bars }
+    }
+
+    pub fn ours(self) -> Style {
+        Style::try_from(self.style).expect("both styles are asked for")
+    }
+
+    fn rust(self) -> (Song, Form) {
+        let style = STYLES[usize::from(self.style)];
+        (song(style, self.seed), arrange(self.seed))
+    }
+}
+
+/// One way to do a case: it answers a number that tells its work.
+pub struct Side {
+    pub name: &'static str,
+    pub run: Box<dyn FnMut(Asked) -> u64>,
+}
+
+/// The first side is ours. `batch` songs are made in a round.
+pub struct Case {
+    pub name: &'static str,
+    pub batch: usize,
+    pub sides: Vec<Side>,
+}
+
+fn side(name: &'static str, run: impl FnMut(Asked) -> u64 + 'static) -> Side {
+    let run = Box::new(run);
+    Side { name, run }
+}
+
+/// Compose and arrange; every number of the song is summed, so that none can be left out.
+fn songs() -> Case {
+    Case {
+        name: "compose and arrange",
+        batch: 20,
+        sides: vec![
+            side("ours", |a| raw::probe_song(a.style, a.seed)),
+            side("Rust", |a| {
+                let (song, form) = a.rust();
+                sum::kept(&song, &form)
+            }),
+        ],
+    }
+}
+
+fn sheets() -> Case {
+    let mut ours = [0; SHEET_MOST];
+    let mut rust = [0; SHEET_MOST];
+    Case {
+        name: "sheet",
+        batch: 20,
+        sides: vec![
+            side("ours", move |a| {
+                let len = seqochanu::sheet(a.ours(), a.seed, &mut ours).expect("room");
+                black_box(&ours)[..len].len() as u64
+            }),
+            side("Rust", move |a| {
+                let (song, form) = a.rust();
+                let len = writer::sheet(a.style, a.seed, &song, &form, &mut rust);
+                black_box(&rust)[..len].len() as u64
+            }),
+        ],
+    }
+}
+
+/// Every page of a song by a call of its own. Ours composes in each call; the Rust in one side too, and in the
+/// other once for all pages, which asks the caller to keep the song.
+fn pages() -> Case {
+    let mut ours = [0; PAGE_MOST];
+    let mut each = [0; PAGE_MOST];
+    let mut once = [0; PAGE_MOST];
+    let ours = move |a: Asked| {
+        let mut page = |bar| seqochanu::bar_page(a.ours(), a.seed, bar, &mut ours);
+        (0..a.bars)
+            .map(|bar| black_box(page(bar)).expect("room") as u64)
+            .sum()
+    };
+    let each = move |a: Asked| {
+        let mut page = |bar| {
+            let (song, form) = a.rust();
+            writer::page(&song, &form, bar as usize, &mut each)
+        };
+        (0..a.bars).map(|bar| black_box(page(bar)) as u64).sum()
+    };
+    let once = move |a: Asked| {
+        let (song, form) = a.rust();
+        let mut page = |bar| writer::page(&song, &form, bar as usize, &mut once);
+        (0..a.bars).map(|bar| black_box(page(bar)) as u64).sum()
+    };
+    Case {
+        name: "all pages",
+        batch: 2,
+        sides: vec![
+            side("ours", ours),
+            side("Rust, composing for each page", each),
+            side("Rust, composing once", once),
+        ],
+    }
+}
+
+pub fn all() -> [Case; 3] {
+    [songs(), sheets(), pages()]
+}
+
+/// Stops where our libraries and the Rust differ on a song: then the times would not be those of the same work.
+pub fn check(a: Asked) {
+    let (song, form) = a.rust();
+    let rust = sum::kept(&song, &form) + sum::bars(&song);
+    let what = format!("of {:#x} in style {}", a.seed, a.style);
+    assert_eq!(raw::probe_song(a.style, a.seed), rust, "the sum {what}");
+    let mut bytes = [0; SHEET_MOST];
+    let len = writer::sheet(a.style, a.seed, &song, &form, &mut bytes);
+    let ours = seqochanu::sheet_vec(a.ours(), a.seed);
+    assert_eq!(ours, &bytes[..len], "the sheet {what}");
+    let mut bars = 0;
+    for (bar, ours) in seqochanu::pages(a.ours(), a.seed).enumerate() {
+        let len = writer::page(&song, &form, bar, &mut bytes);
+        assert_eq!(ours, &bytes[..len], "page {bar} {what}");
+        bars += 1;
+    }
+    assert_eq!(bars, a.bars, "the pages {what}");
+}

@@ -1,0 +1,57 @@
+//! Times: the sides of a case take turns in many short rounds, so that what disturbs the machine disturbs all.
+
+use crate::cases::{Asked, Case, Side};
+use std::hint::black_box;
+use std::time::Instant;
+
+/// Microseconds for each of the songs.
+fn timed(side: &mut Side, songs: &[Asked]) -> f64 {
+    let start = Instant::now();
+    for &a in songs {
+        black_box((side.run)(black_box(a)));
+    }
+    start.elapsed().as_secs_f64() * 1e6 / songs.len() as f64
+}
+
+/// The value below which this share of them lies.
+fn quantile(values: &[f64], share: f64) -> f64 {
+    let mut sorted = values.to_vec();
+    sorted.sort_by(f64::total_cmp);
+    sorted[(share * (sorted.len() - 1) as f64).round() as usize]
+}
+
+/// The times of each side, round by round, over all the songs and `passes` times.
+fn rounds(case: &mut Case, songs: &[Asked], passes: usize) -> Vec<Vec<f64>> {
+    let count = case.sides.len();
+    let mut times = vec![Vec::new(); count];
+    for side in &mut case.sides {
+        timed(side, &songs[..case.batch]);
+    }
+    let batches = (0..passes).flat_map(|_| songs.chunks_exact(case.batch));
+    for (round, batch) in batches.enumerate() {
+        for turn in 0..count {
+            let i = (round + turn) % count;
+            times[i].push(timed(&mut case.sides[i], batch));
+        }
+    }
+    times
+}
+
+/// Prints a case's times in one style.
+pub fn report(case: &mut Case, songs: &[Asked], passes: usize) {
+    let times = rounds(case, songs, passes);
+    let (name, style) = (case.name, songs[0].style);
+    let ours = &times[0];
+    for (side, rust) in case.sides.iter().zip(&times).skip(1) {
+        let ratios: Vec<f64> = ours.iter().zip(rust).map(|(o, r)| o / r).collect();
+        let (o, r) = (quantile(ours, 0.5), quantile(rust, 0.5));
+        println!(
+            "style {style}, {name}: ours {o:.2} µs, {} {r:.2} µs; ours / Rust {:.2}, quartiles {:.2} and {:.2} of {} rounds",
+            side.name,
+            o / r,
+            quantile(&ratios, 0.25),
+            quantile(&ratios, 0.75),
+            ratios.len(),
+        );
+    }
+}

@@ -1,0 +1,100 @@
+//! Measures our static libraries and the Rust on the same songs. The Rust's own files stand beside this one when
+//! it is compiled (see `run`).
+//!
+//! `bench times` prints times, `bench stack` the stack that our calls took. `bench sides` lists what can be counted, and
+//! `bench count CASE SIDE STYLE` does it for a few songs inside `bench_measured`, for a tool that counts instructions.
+
+// the Rust's files are compiled whole, and the driver asks for a part of them
+#[allow(dead_code, unused_imports)]
+mod compose;
+#[allow(dead_code)]
+mod dsp;
+#[allow(dead_code)]
+mod style;
+#[allow(dead_code)]
+mod synth;
+
+mod cases;
+mod clock;
+mod seqochanu;
+mod stack;
+mod sum;
+mod writer;
+
+use cases::{Asked, Side};
+use std::hint::black_box;
+
+/// How many seeds are timed, and how many are counted.
+const TIMED: u64 = 2000;
+const COUNTED: u64 = 20;
+
+fn songs(style: u8, count: u64) -> Vec<Asked> {
+    (0..count).map(|i| Asked::new(style, i)).collect()
+}
+
+fn times() {
+    for style in [0, 1] {
+        let songs = songs(style, TIMED);
+        for &a in &songs {
+            cases::check(a);
+        }
+        let pages: u64 = songs.iter().map(|a| a.bars).sum();
+        println!(
+            "style {style}: {TIMED} songs of {:.1} pages",
+            pages as f64 / TIMED as f64
+        );
+        for mut case in cases::all() {
+            // some hundreds of rounds for each case
+            let passes = case.batch.div_ceil(4);
+            clock::report(&mut case, &songs, passes);
+        }
+    }
+}
+
+fn sides() {
+    for (i, case) in cases::all().iter().enumerate() {
+        for (k, side) in case.sides.iter().enumerate() {
+            println!("{i} {k} {}: {}", case.name, side.name);
+        }
+    }
+}
+
+/// A page of memory.
+#[repr(align(4096))]
+struct Page(u8);
+
+#[unsafe(no_mangle)]
+#[inline(never)]
+fn bench_measured(side: &mut Side, songs: &[Asked]) {
+    // the stack below starts where a page does, so that what copies take does not depend on what was called before
+    let mut page = Page(0);
+    black_box(&mut page.0);
+    for &a in songs {
+        black_box((side.run)(black_box(a)));
+    }
+}
+
+fn count(case: usize, side: usize, style: u8) {
+    let songs = songs(style, COUNTED);
+    let side = &mut cases::all()[case].sides[side];
+    // a first run outside, after which nothing is made or looked up once for all
+    for &a in &songs {
+        black_box((side.run)(a));
+    }
+    bench_measured(side, &songs);
+}
+
+fn main() {
+    let words: Vec<String> = std::env::args().skip(1).collect();
+    let words: Vec<&str> = words.iter().map(String::as_str).collect();
+    let number = |word: &str| word.parse().expect("a whole number");
+    match words[..] {
+        ["times"] => times(),
+        ["sides"] => sides(),
+        ["count", case, side, style] => {
+            count(number(case), number(side), number(style) as u8);
+        }
+        ["stack"] => stack::report([songs(0, TIMED), songs(1, TIMED)].concat()),
+        _ => panic!("times, sides, count CASE SIDE STYLE, or stack"),
+    }
+}
