@@ -7,7 +7,9 @@
  *   -2  the buffer is shorter than this very sheet or page
  *   -3  the song has no such bar
  *
- * A refusal writes nothing; bytes beyond those written keep their values. No function keeps anything between calls.
+ * A refusal writes nothing; bytes beyond those written keep their values. No function keeps anything between calls,
+ * so calls with different buffers may run at the same time. Nothing is allocated: a call works on its stack, and bench/run
+ * prints how much of it is needed at most.
  *
  * The caller ensures that buf points to len bytes that may be read and written and have been set, that nothing
  * else uses them during the call, and that buf is not NULL, also where len is 0. Nothing else is asked: every
