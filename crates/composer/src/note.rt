@@ -2,11 +2,12 @@
 ghost use mathlib.Core.Path.{_≡_};
 ghost use Rattle.composer.specs.Note.{kindNumberOf};
 
-// Its time, in seconds into the loop, its pitch (MIDI), its velocity, and how long it is held, in seconds.
+// Its pitch (MIDI), its time, in seconds into the loop, its velocity, and how long it is held, in seconds. The
+// bytes stand together, here and in `Hit`, so that an entry of a lane is small.
 pub struct Note {
     pub bar: u8,
-    pub at: f32,
     pub midi: u8,
+    pub at: f32,
     pub vel: f32,
     pub dur: f32,
 }
@@ -34,8 +35,8 @@ impl DrumKind {
 
 pub struct Hit {
     pub bar: u8,
-    pub at: f32,
     pub kind: DrumKind,
+    pub at: f32,
     pub gain: f32,
 }
 

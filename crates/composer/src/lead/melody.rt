@@ -32,8 +32,8 @@ const PEAK_ACCENT: f32 = 0.06;
 // A note before it is played: its bar, its beat in the bar, pitch and velocity.
 pub struct LeadNote {
     pub bar: u8,
-    pub beat: f32,
     pub note: u8,
+    pub beat: f32,
     pub vel: f32,
 }
 
