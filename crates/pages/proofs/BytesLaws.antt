@@ -1,11 +1,31 @@
--- How long a field is. Assumes nothing.
-use mathlib.Core.Path.{_≡_}
-use mathlib.Core.List.{List}
-use Prim.Native.Nat.{ℕ, _+_}
+-- How long a field is, and the bytes of a number that is turned round. Assumes nothing.
+use mathlib.Core.Path.{_≡_, refl}
+use mathlib.Core.List.{List, [], _∷_}
+use Prim.Native.Nat.{ℕ, _+_, _*_, _/_, _%_, _<_}
 use native.Mathlib.Omega.{arith}
 use lib.ListN.{length}
-use Rattle.pages.specs.Bytes.{field}
+use Rattle.pages.specs.Bytes.{be32, field}
 
 pub length-field : (tag : ℕ) (body : List ℕ) → length (field tag body) ≡ 3 + length body
 unfolding field
 length-field tag body = omega arith
+
+next-byte : (n d : ℕ) → d < 256 → ((n * 256 + d) % 256 ≡ d) × ((n * 256 + d) / 256 ≡ n)
+next-byte n d h = (omega arith, omega arith)
+
+middle : (x : ℕ) → (x / 65536 / 256 ≡ x / 16777216) × (x % 65536 / 256 ≡ x / 256 % 256) × (x % 65536 % 256 ≡ x % 256)
+middle x = (omega arith, omega arith, omega arith)
+
+-- the low byte of the turned number is the high byte of x, and so on
+pub turned-bytes : (x y : ℕ) → x < 4294967296 → y ≡ ((x % 256 * 256 + x / 256 % 256) * 256 + x / 65536 % 256) * 256 + x / 16777216
+    → (y % 256 ∷ (y / 256 % 256) ∷ (y / 256 / 256 % 256) ∷ (y / 256 / 256 / 256) ∷ []) ≡ be32 x
+turned-bytes x y h e =
+    let s = x % 256 in
+    let r = x / 256 % 256 in
+    let q = x / 65536 % 256 in
+    let p = x / 16777216 in
+    let one = next-byte ((s * 256 + r) * 256 + q) p (omega arith) in
+    let two = next-byte (s * 256 + r) q (omega arith) in
+    let three = next-byte s r (omega arith) in
+    let m = middle x in
+    rw (e, one .0, one .1, two .0, two .1, three .0, three .1, m .0, m .1, m .2) refl

@@ -1,6 +1,7 @@
 // Writers at a place in a buffer: each answers the place after what it wrote. Numbers are big-endian.
 ghost use mathlib.Core.List.{[], _∷_};
-ghost use Prim.Native.Nat.{_+_, _<_, _≤_};
+ghost use mathlib.Core.Path.{_≡_};
+ghost use Prim.Native.Nat.{_+_, _*_, _/_, _%_, _<_, _≤_};
 ghost use lib.ListN.{length};
 ghost use Rattle.laws.specs.Writes.{Wrote};
 ghost use Rattle.pages.specs.Bytes.{be16, be32, be64, f32Bytes, head};
@@ -22,12 +23,22 @@ pub(crate) fn put_u16(buf: &mut [u8], at: usize, x: u16) -> usize
     put_u8(buf, a, (x % 256) as u8)
 }
 
+// x with its bytes in the other order. Stores that rise from its low byte on are one store to the compiler.
+fn turned(x: u32) -> u32
+    ensures { λ r. ⌜ r ≡ ((x % 256 * 256 + x / 256 % 256) * 256 + x / 65536 % 256) * 256 + x / 16777216 ⌝ }
+{
+    ((x % 256 * 256 + x / 256 % 256) * 256 + x / 65536 % 256) * 256 + x / 16777216
+}
+
 pub(crate) fn put_u32(buf: &mut [u8], at: usize, x: u32) -> usize
     requires { ⌜ at + 4 ≤ length (now buf) ⌝ }
     ensures { λ r. ⌜ Wrote (now (buf .entry)) (now (buf .exit)) at r 4 (be32 x) ⌝ }
 {
-    let a = put_u16(buf, at, (x / 65536) as u16);
-    put_u16(buf, a, (x % 65536) as u16)
+    let y = turned(x);
+    let a = put_u8(buf, at, (y % 256) as u8);
+    let b = put_u8(buf, a, (y / 256 % 256) as u8);
+    let c = put_u8(buf, b, (y / 256 / 256 % 256) as u8);
+    put_u8(buf, c, (y / 256 / 256 / 256) as u8)
 }
 
 pub(crate) fn put_u64(buf: &mut [u8], at: usize, x: u64) -> usize
