@@ -1,7 +1,7 @@
 -- Any other style is refused, and what holds of every song: each stage's laws, at its own stream. Assumes nothing.
 use mathlib.Core.Path.{_≡_, refl, sym, ap, subst}
 use mathlib.Core.Bool.{Bool, true, false}
-use Prim.Native.Nat.{ℕ, zero, suc, _≤_}
+use Prim.Native.Nat.{ℕ, zero, suc, _≤_, _<_}
 use native.Mathlib.Omega.{arith}
 use lib.Ieee.{Float}
 use lib.ListN.{length}
@@ -10,7 +10,7 @@ use Rattle.streams.specs.Stage.{streamOf}
 use Rattle.streams.specs.declared.stage.Stage.{Stage}
 use Rattle.streams.specs.declared.stream.NoiseStream.{NoiseStream}
 use Rattle.composer.specs.Bass.{bassOf}
-use Rattle.composer.specs.Compose.{beatSOf, songBy, composedOf, refusedOf, composeOf}
+use Rattle.composer.specs.Compose.{beatSOf, songBy, composedOf, refusedOf, styleBy, composeOf}
 use Rattle.composer.specs.Drums.{drumsOf}
 use Rattle.composer.specs.Harmony.{melodyPcsOf, harmonyOf, Tonal}
 use Rattle.composer.specs.Keys.{keysOf}
@@ -57,6 +57,11 @@ pub composed-by : (style : Style) (seed : ℕ) {hs ts ls ks ds bs vs : NoiseStre
     → songBy style h t l k d b v ≡ composedOf style seed
 unfolding composedOf
 composed-by style seed hs h ts t ls l ks k ds d bs b vs v = rw (v, vs, b, bs, d, ds, k, ks, l, ls, t, ts, h, hs)
+
+pub known-style : (style seed : ℕ) → style < 2 → composeOf style seed ≡ composedOf (styleBy style) seed
+known-style zero seed h = refl
+known-style (suc zero) seed h = refl
+known-style (suc (suc n)) seed h = absurd (omega arith)
 
 -- five classes, or six
 pcs-least : (key : ℕ) (major : Bool) → 5 ≤ melodyPcsOf key major .n

@@ -1,5 +1,7 @@
 -- A song of a style and a seed: each stage draws from its own stream. Definitions only.
+use mathlib.Core.Bool.{cond}
 use Prim.Native.Nat.{ℕ, zero, suc}
+use lib.Dec.{eqb}
 use lib.ListN.{replicate}
 use lib.Ieee.{Float, binary32, ofBits, div}
 use Rattle.streams.specs.Stage.{streamOf}
@@ -100,6 +102,9 @@ refusedOf r = record {
   scale = record { pcs = replicate 6 0; n = 0 };
   counters = record { harmony = 0; tempo = 0; lead = 0; keys = 0; drums = 0; bass = 0; voice = 0 };
 }
+
+abbrev pub styleBy : ℕ → Style
+styleBy n = cond (eqb n 0) Style.Hiphop Style.Sleep
 
 -- style 0 is hiphop, 1 sleep; any other is refused
 abbrev pub composeOf : ℕ → ℕ → Composed

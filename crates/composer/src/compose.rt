@@ -1,6 +1,6 @@
 // A song of a style and a seed: each stage draws from its own stream.
 ghost use mathlib.Core.Path.{_≡_};
-ghost use Rattle.composer.specs.Compose.{composedOf, noScore, refusedOf, composeOf};
+ghost use Rattle.composer.specs.Compose.{composedOf, noScore, refusedOf, styleBy, composeOf};
 use crate::bass::bass;
 use crate::chord::NO_CHORD;
 use crate::drums::drums;
@@ -137,13 +137,26 @@ fn refused(r: Refusal) -> Composed
     }
 }
 
-// The song of a seed in style 0 (hiphop) or 1 (sleep). Any other style is refused.
+// Style 0 or 1 by its number.
+fn style_by(number: u8) -> Style
+    ensures { λ r. ⌜ r ≡ styleBy number ⌝ }
+{
+    if number == 0 {
+        Style::Hiphop
+    } else {
+        Style::Sleep
+    }
+}
+
+// The song of a seed in style 0 (hiphop) or 1 (sleep). Any other style is refused with 1, and then all else
+// in the answer is zero.
 pub fn compose(style: u8, seed: u64) -> Composed
     ensures { λ r. ⌜ r ≡ composeOf style seed ⌝ }
 {
-    match style {
-        0 => composed_of(Style::Hiphop, seed),
-        1 => composed_of(Style::Sleep, seed),
-        _ => refused(Refusal::UnknownStyle),
+    if style > 1 {
+        return refused(Refusal::UnknownStyle);
     }
+    // one call for both styles, so that its song is made where it is handed over
+    let known = style_by(style);
+    composed_of(known, seed)
 }
