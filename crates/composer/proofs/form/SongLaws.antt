@@ -1,9 +1,10 @@
 -- An arranged form is sound: its parts are its bars, 64 at most; and its bars are the song's. Assumes nothing.
-use mathlib.Core.Path.{_≡_, refl, _∙_}
-use mathlib.Core.Bool.{true}
-use Prim.Native.Nat.{ℕ, _+_, _-_, _*_, _≤_, _<_}
+use mathlib.Core.Path.{_≡_, refl, sym, ap, _∙_}
+use mathlib.Core.Bool.{true, not, _&&_, and-assoc}
+use Prim.Native.Nat.{ℕ, _+_, _-_, _*_, _/_, _%_, _≤_, _<_}
 use native.Mathlib.Omega.{arith}
 use borrow.Author.Tests.{lt-ltb, le-ltb, eq-eqb, le-leb}
+use lib.Dec.{leb, eqb}
 use lib.ListN.{length, getD}
 use Rattle.laws.specs.Lists.{listTo}
 use Rattle.laws.proofs.Lists.{length-pad, pad-at, list-to-at, length-list-to}
@@ -12,8 +13,8 @@ use Rattle.streams.specs.Stage.{streamOf}
 use Rattle.streams.specs.declared.stage.Stage.{Stage}
 use Rattle.composer.specs.Form.Plays.{silent}
 use Rattle.composer.specs.Form.Decisions.{decideOf}
-use Rattle.composer.specs.Form.Body.{bodyBarOf, cutAt}
-use Rattle.composer.specs.Form.Song.{introOf, outroOf, introLength, songLength, songBarOf, formOf, decisionsOf, arrangeOf}
+use Rattle.composer.specs.Form.Body.{lowThinning, cutAt, bodyBarOf, phraseOf, phraseBarOf}
+use Rattle.composer.specs.Form.Song.{introOf, introPlays, outroOf, outroPlays, introLength, songLength, songBarOf, formOf, decisionsOf, arrangeOf}
 use Rattle.composer.specs.Form.Ask.{soundOf}
 use Rattle.composer.specs.declared.form.decisions.Decisions.{Decisions}
 use Rattle.composer.proofs.form.AskLaws.{sound-bars}
@@ -62,6 +63,29 @@ module _ (d : Decisions) where
       let e : n + b - n ≡ b = omega arith in
       let late : n ≤ n + b = omega arith in
       rw (le-ltb (n + b) n late, e, lt-ltb b (8 * d .phrases) h)
+
+  -- the song's bars as the loops make them: the intro's, phrase by phrase the body's, the outro's
+  pub in-intro : (n b : ℕ) → b < n → introPlays (d .opening) ≡ songBarOf d n b
+  unfolding songBarOf
+  in-intro n b h = rw (lt-ltb b n h)
+
+  phrase-bar : (p i : ℕ) → i < 8 → phraseBarOf (phraseOf d p) i ≡ bodyBarOf d (8 * p + i)
+  unfolding bodyBarOf phraseOf phraseBarOf
+  phrase-bar p i h =
+      let q : (8 * p + i) / 8 ≡ p = omega arith in
+      let r : (8 * p + i) % 8 ≡ i = omega arith in
+      rw (q, r, and-assoc ((d .«bass_drop» && leb 5 (d .phrases)) && not (lowThinning d)) (eqb p (d .phrases / 2 + 1)) (leb 4 i))
+
+  pub in-phrase : (n p i b : ℕ) → p < d .phrases → i < 8 → b ≡ n + 8 * p + i → phraseBarOf (phraseOf d p) i ≡ songBarOf d n b
+  in-phrase n p i b h k e =
+      let at : b ≡ n + (8 * p + i) = omega arith in
+      phrase-bar p i k ∙ sym (in-body n (8 * p + i) (omega arith)) ∙ ap (songBarOf d n) (sym at)
+
+  pub in-outro : (n b : ℕ) → n + 8 * d .phrases ≤ b → outroPlays (d .closing) (b - (n + 8 * d .phrases)) ≡ songBarOf d n b
+  unfolding songBarOf
+  in-outro n b h =
+      let e : b - (n + 8 * d .phrases) ≡ b - n - 8 * d .phrases = omega arith in
+      rw (le-ltb b n (omega arith), le-ltb (b - n) (8 * d .phrases) (omega arith), e)
 
   -- the bars after the intro are the body's
   pub body-bar : (b : ℕ) → b < 8 * d .phrases → getD (formOf d .plays) (introLength d + b) silent ≡ bodyBarOf d b

@@ -7,6 +7,7 @@ use Rattle.composer.specs.declared.form.plays.Plays.{Plays}
 use Rattle.composer.specs.declared.form.decisions.Thinning.{Thinning}
 use Rattle.composer.specs.declared.form.decisions.Cut.{Cut}
 use Rattle.composer.specs.declared.form.decisions.Decisions.{Decisions}
+use Rattle.composer.specs.declared.form.body.Phrase.{Phrase}
 
 abbrev pub isBreak : Thinning → Bool
 isBreak Thinning.Break = true
@@ -58,3 +59,29 @@ bassOut d b = ((lowThinning d && thins d b) || (cutTakes d b && cutAt d (b / 8) 
 
 unfoldable pub bodyBarOf : Decisions → ℕ → Plays
 bodyBarOf d b = record { pad = true; keys = true; drums = not (drumsOut d b); bass = not (bassOut d b) }
+
+-- ---- as the code has the bars: from what their phrase loses, worked out once
+unfoldable pub phraseOf : Decisions → ℕ → Phrase
+phraseOf d p = record {
+  breaks = isBreak (d .thinning);
+  low = lowThinning d;
+  thin = eqb p (d .phrases / 2);
+  whole = d .whole;
+  cuts = cutHeard d p;
+  «cut_bars» = cutAt d p .bars;
+  «cut_low» = cutAt d p .low;
+  «late_drop» = ((d .«bass_drop» && leb 5 (d .phrases)) && not (lowThinning d)) && eqb p (d .phrases / 2 + 1);
+}
+
+-- bar i of a phrase
+unfoldable pub phraseBarOf : Phrase → ℕ → Plays
+phraseBarOf h i =
+    let thinned = h .thin && (h .whole || leb 4 i) in
+    let cut = h .cuts && leb (8 - i) (h .«cut_bars») in
+    let late = h .«late_drop» && leb 4 i in
+    record {
+      pad = true;
+      keys = true;
+      drums = not ((h .breaks && thinned) || cut);
+      bass = not (((h .low && thinned) || (cut && h .«cut_low»)) || late);
+    }

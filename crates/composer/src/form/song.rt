@@ -1,10 +1,11 @@
 // The whole song: intro, body and outro of what the draws decide.
 ghost use mathlib.Core.Path.{_≡_};
-ghost use Prim.Native.Nat.{_≤_};
-ghost use Rattle.composer.specs.Form.Song.{barsBy, introOf, introPlays, outroOf, outroPlays, songBarOf, songPlaysOf, formOf, arrangeOf};
+ghost use Prim.Native.Nat.{_+_, _*_, _≤_};
+ghost use Rattle.composer.specs.Form.Song.{barsBy, introOf, introPlays, outroOf, outroPlays, songPlaysOf, formOf, arrangeOf};
 use crate::form::Form;
-use crate::form::body::body_bar;
 use crate::form::body::cut_heard;
+use crate::form::body::phrase_bar;
+use crate::form::body::phrase_of;
 use crate::form::decisions::Closing;
 use crate::form::decisions::Decisions;
 use crate::form::decisions::Opening;
@@ -73,33 +74,33 @@ fn outro_plays(c: Closing, k: u8) -> Plays
     }
 }
 
-// The layers that strike in song bar b, after an intro of n bars.
-fn song_bar(d: Decisions, n: u8, b: u8) -> Plays
-    requires { ⌜ d .phrases ≤ 6 ⌝ }
-    ensures { λ r. ⌜ r ≡ songBarOf d n b ⌝ }
-{
-    if b < n {
-        let o = d.opening;
-        return intro_plays(o);
-    }
-    let k = b - n;
-    let body = 8 * d.phrases;
-    if k < body {
-        return body_bar(d, k);
-    }
-    let c = d.closing;
-    outro_plays(c, k - body)
-}
-
-// The song's bars, and silence past its end.
+// The song's bars after an intro of n bars, and silence past its end.
 fn song_plays(d: Decisions, n: u8, bars: u8) -> [Plays; 64]
-    requires { ⌜ (d .phrases ≤ 6) × (bars ≤ 64) ⌝ }
+    requires { ⌜ (d .phrases ≤ 6) × (n + 8 * d .phrases ≤ bars) × (bars ≤ 64) ⌝ }
     ensures { λ r. ⌜ r ≡ songPlaysOf d n bars ⌝ }
 {
     let mut out = [SILENT; 64];
     let mut b: u8 = 0;
+    let o = d.opening;
+    let intro = intro_plays(o);
+    while b < n {
+        out[b as usize] = intro;
+        b += 1;
+    }
+    // taken out before the loop: an index into d's array would copy it for each phrase
+    let cuts = d.cuts;
+    for p in 0..d.phrases {
+        let cut = cuts[p as usize];
+        let phrase = phrase_of(d, cut, p);
+        for i in 0..8u8 {
+            out[b as usize] = phrase_bar(phrase, i);
+            b += 1;
+        }
+    }
+    let body = b;
     while b < bars {
-        out[b as usize] = song_bar(d, n, b);
+        let c = d.closing;
+        out[b as usize] = outro_plays(c, b - body);
         b += 1;
     }
     out
@@ -117,7 +118,8 @@ fn form_of(d: Decisions) -> Form
     let n = intro.bars();
     let bars = n + 8 * d.phrases + outro.bars();
     let plays = song_plays(d, n, bars);
-    let cut = cut_heard(d, 1);
+    let cuts = d.cuts;
+    let cut = cut_heard(d, cuts[1], 1);
     Form {
         intro: intro,
         phrases: d.phrases,

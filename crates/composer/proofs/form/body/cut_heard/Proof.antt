@@ -4,12 +4,6 @@ use borrow.Author.Needs.{needs}
 use Rattle.composer.proofs.form.body.cut_heard.Statement.{statement}
 use Rattle.composer.proofs.form.body.cut_heard.Tie as tie
 
-mul-cut : tie.Need-mul-cut
-mul-cut c = search needs
-
-element-copy-out-cut : tie.Need-element-copy-out-cut
-element-copy-out-cut c = search needs
-
 add-before-break : tie.Need-add-before-break
 add-before-break c = search needs
 
@@ -21,9 +15,9 @@ add-inside c = search needs
 
 returns : tie.Need-returns
 unfolding cutHeard
-returns c = rw (c .before .is-break .ensures)
+returns c =
+    let t = c .before .before .before .before in
+    rw (t .is-break .ensures, t .before .before .pre .1)
 
 pub cut-heard-spec : {M : Type 1} → statement M
-cut-heard-spec =
-    tie.close
-    (tie.spec mul-cut element-copy-out-cut add-before-break is-break-requires add-inside returns)
+cut-heard-spec = tie.close (tie.spec add-before-break is-break-requires add-inside returns)

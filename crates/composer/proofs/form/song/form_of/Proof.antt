@@ -34,6 +34,9 @@ song-plays-requires c κs =
     let b = c .before .before in
     omega (arith, b .bars .ensures, end-bars-le (b .before .before .intro-of .result), c .bars2 .ensures, outro-length-le (b .before .outro-of .result))
 
+array-copy-out-cut-heard : tie.Need-array-copy-out-cut-heard
+array-copy-out-cut-heard c = search needs
+
 cut-heard-requires : tie.Need-cut-heard-requires
 cut-heard-requires c κs = search needs
 
@@ -41,7 +44,7 @@ returns : tie.Need-returns
 unfolding formOf
 returns c =
     let k = c .before in
-    let s = k .before in
+    let s = k .before .before .before in
     let o = s .before in
     let b = o .before .before in
     rw (k .cut-heard .ensures, s .song-plays .ensures, o .bars2 .ensures, b .bars .ensures, b .before .outro-of .ensures, b .before .before .intro-of .ensures)
@@ -58,5 +61,6 @@ form-of-spec =
     bars-requires-2
     add-bars-2
     song-plays-requires
+    array-copy-out-cut-heard
     cut-heard-requires
     returns)
