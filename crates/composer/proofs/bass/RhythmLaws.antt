@@ -1,15 +1,16 @@
 -- Each bar's rhythm: the root in the first beat, then at most twelve steps more, in order, within the bar. Assumes nothing.
-use mathlib.Core.Path.{_≡_, refl, _∙_}
+use mathlib.Core.Path.{_≡_, refl, sym, ap, _∙_, subst}
 use mathlib.Core.Logic.{inl, inr}
 use mathlib.Core.Bool.{Bool, true, false, cond}
 use mathlib.Core.List.{List}
 use Prim.Native.Nat.{ℕ, zero, suc, _+_, _-_, _≤_, _<_}
-use native.Mathlib.Nat.{eq-or-lt-of-le, le-of-suc-le-suc}
+use native.Mathlib.Nat.{add-zero, eq-or-lt-of-le, le-of-suc-le-suc}
 use native.Mathlib.Numerals.{add-one}
 use native.Mathlib.Omega.{arith}
 use lib.ListN.{getD, set, length, replicate, length-set}
-use lib.Seq.{getD-set-same, getD-set-other}
+use lib.Seq.{getD-set-same, getD-set-other, set-getD}
 use lib.Ieee.{Float, binary32, sub, div}
+use mir.Val.{boolByte}
 use Rattle.laws.proofs.Bools.{either}
 use Rattle.streams.specs.Draw.{chanceOf}
 use Rattle.streams.specs.declared.stream.NoiseStream.{NoiseStream}
@@ -117,25 +118,46 @@ module _ (d : StepsDraw) (root : Rising (d .steps) 4) (alone : d .steps .n ≡ 1
       (omega arith)
 
 -- ---- a turn of the loop over the later steps: what is drawn, and the steps after it
-one-sounds : (t : Steps) (s : NoiseStream) (step : ℕ) (c : ChanceDraw) → c ≡ chanceOf s (stepP step) → c .value ≡ true
-    → oneStepOf (record { steps = t; stream = s }) step ≡ record { steps = moreSteps t step; stream = c .stream }
+-- past its steps a bar's array is zero
+abbrev Rest : Steps → Type 0
+Rest t = (j : ℕ) → t .n ≤ j → getD (t .at) j 0 ≡ 0
+
+rest-on : (b : Bool) (t : Steps) (step : ℕ) → Rest t → Rest (cond b (moreSteps t step) t)
+rest-on true t step r j h = getD-set-other (t .at) (t .n) j step 0 (λ e. omega arith) ∙ r j (omega arith)
+rest-on false t step r j h = r j h
+
+root-rest : (r : RootDraw) → Rest (rootAlone r .steps)
+root-rest r zero h = absurd (omega arith)
+root-rest r (suc j) h = zeros 12 j
+  where
+    zeros : (k j : ℕ) → _≡_ {A = ℕ} (getD (replicate k 0) j 0) 0
+    zeros zero j = refl
+    zeros (suc k) zero = refl
+    zeros (suc k) (suc j) = zeros k j
+
+steps-rest : (r : RootDraw) (i : ℕ) → Rest (stepsTo (rootAlone r) i .steps)
+unfolding stepsTo oneStepOf
+steps-rest r zero = root-rest r
+steps-rest r (suc i) = rest-on (chanceOf (stepsTo (rootAlone r) i .stream) (stepP (i + 4)) .value) (stepsTo (rootAlone r) i .steps) (i + 4) (steps-rest r i)
+
+-- a step that sounds is written, and one that rests writes the 0 that stands there
+one-on : (t : Steps) (s : NoiseStream) (step : ℕ) (c : ChanceDraw) → c ≡ chanceOf s (stepP step) → Rest t
+    → oneStepOf (record { steps = t; stream = s }) step
+    ≡ record { steps = record { at = set (t .at) (t .n) (cond (c .value) step 0); n = t .n + boolByte (c .value) }; stream = c .stream }
 unfolding oneStepOf
-one-sounds t s step c drawn v = rw (← drawn, v)
+one-on t s step c drawn rest = rw (← drawn) (ap (λ (u : Steps). record { steps = u; stream = c .stream }) (go (c .value)))
+  where
+    kept : set (t .at) (t .n) 0 ≡ t .at
+    kept = ap (λ (x : ℕ). set (t .at) (t .n) x) (sym (rest (t .n) (omega arith))) ∙ set-getD (t .at) (t .n) 0
 
-one-rests : (t : Steps) (s : NoiseStream) (step : ℕ) (c : ChanceDraw) → c ≡ chanceOf s (stepP step) → c .value ≡ false
-    → oneStepOf (record { steps = t; stream = s }) step ≡ record { steps = t; stream = c .stream }
-unfolding oneStepOf
-one-rests t s step c drawn v = rw (← drawn, v)
+    go : (b : Bool) → _≡_ {A = Steps} (cond b (moreSteps t step) t) (record { at = set (t .at) (t .n) (cond b step 0); n = t .n + boolByte b })
+    go true = refl
+    go false = rw (kept, add-zero (t .n)) refl
 
-module _ (d : StepsDraw) (i : ℕ) (t : Steps) (s : NoiseStream) (c : ChanceDraw) (so-far : stepsTo d i ≡ record { steps = t; stream = s })
-    (drawn : c ≡ chanceOf s (stepP (i + 4))) where
-  pub turn-sounds : c .value ≡ true → stepsTo d (i + 1) ≡ record { steps = moreSteps t (i + 4); stream = c .stream }
-  unfolding stepsTo
-  turn-sounds v = rw (add-one, so-far) (one-sounds t s (i + 4) c drawn v)
-
-  pub turn-rests : c .value ≡ false → stepsTo d (i + 1) ≡ record { steps = t; stream = c .stream }
-  unfolding stepsTo
-  turn-rests v = rw (add-one, so-far) (one-rests t s (i + 4) c drawn v)
+pub turn-on : (r : RootDraw) (i : ℕ) (t : Steps) (s : NoiseStream) (c : ChanceDraw) → stepsTo (rootAlone r) i ≡ record { steps = t; stream = s } → c ≡ chanceOf s (stepP (i + 4))
+    → stepsTo (rootAlone r) (i + 1) ≡ record { steps = record { at = set (t .at) (t .n) (cond (c .value) (i + 4) 0); n = t .n + boolByte (c .value) }; stream = c .stream }
+unfolding stepsTo
+turn-on r i t s c so-far drawn = rw (add-one, so-far) (one-on t s (i + 4) c drawn (subst (λ (d : StepsDraw). Rest (d .steps)) so-far (steps-rest r i)))
 
 root-rising : (r : RootDraw) → r .step < 4 → Rising (rootAlone r .steps) 4
 root-rising r h = record {

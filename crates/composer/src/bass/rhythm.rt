@@ -1,4 +1,5 @@
 // A bar's rhythm: the 16ths from its downbeat on which the bass starts a note.
+ghost use mathlib.Core.Bool.{cond};
 ghost use mathlib.Core.Path.{_≡_};
 ghost use Prim.Native.Nat.{_<_};
 ghost use Rattle.composer.specs.Bass.Rhythm.{firstBeatSum, rootStepOf, bassRhythmOf, bassRhythmsOf};
@@ -86,6 +87,13 @@ fn root_step(s: NoiseStream) -> RootDraw
     }
 }
 
+// A step that sounds, else 0.
+fn sounding(sounds: bool, step: u8) -> u8
+    ensures { λ r. ⌜ r ≡ cond sounds step 0 ⌝ }
+{
+    if sounds { step } else { 0 }
+}
+
 // The root's step, then each of steps 4 to 15 by its chance.
 fn bass_rhythm(s: NoiseStream) -> StepsDraw
     ensures { λ r. ⌜ r ≡ bassRhythmOf s ⌝ }
@@ -99,10 +107,9 @@ fn bass_rhythm(s: NoiseStream) -> StepsDraw
     for i in 0..12u8 {
         let step = i + 4;
         let c = chance(stream, chances[step as usize]);
-        if c.value {
-            at[n] = step;
-            n += 1;
-        }
+        // a step that rests writes the 0 that stands there, so that no branch depends on a draw
+        at[n] = sounding(c.value, step);
+        n += c.value as usize;
         stream = c.stream;
     }
     let steps = Steps { at: at, n: n };

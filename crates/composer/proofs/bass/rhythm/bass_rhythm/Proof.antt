@@ -1,11 +1,12 @@
 -- After i turns the first i later steps are drawn, and at most i + 1 sound. Assumes nothing.
 use mathlib.Core.Path.{_≡_, refl, sym}
-use mathlib.Core.Logic.{⊎-elim}
+use mathlib.Core.Bool.{Bool, true, false}
 use Prim.Native.Nat.{_+_, _-_, _≤_}
 use native.Mathlib.Omega.{arith}
 use Rattle.composer.specs.Bass.Rhythm.{stepsTo, rootAlone, bassRhythmOf}
 use Rattle.composer.specs.declared.bass.rhythm.Steps.{Steps}
-use Rattle.composer.proofs.bass.RhythmLaws.{turn-sounds, turn-rests}
+use Rattle.composer.proofs.bass.RhythmLaws.{turn-on}
+use mir.Val.{boolByte}
 use borrow.Author.Needs.{needs}
 use Rattle.composer.proofs.bass.rhythm.bass_rhythm.Statement.{statement}
 use Rattle.composer.proofs.bass.rhythm.bass_rhythm.Tie as tie
@@ -39,11 +40,21 @@ array-read-chance c = search needs
 chance-requires : tie.Need-chance-requires Inv-loop μ-loop
 chance-requires c κs = search needs
 
+sounding-requires : tie.Need-sounding-requires Inv-loop μ-loop
+sounding-requires c κs = search needs
+
 array-write-at : tie.Need-array-write-at Inv-loop μ-loop
 array-write-at c = search needs
 
+cast-n : tie.Need-cast-n Inv-loop μ-loop
+cast-n c = search needs
+
+byte : (b : Bool) → boolByte b ≤ 1
+byte true = omega arith
+byte false = omega arith
+
 add-n : tie.Need-add-n Inv-loop μ-loop
-add-n c = search needs
+add-n c = omega (arith, byte (c .before .before .chance .result .value))
 
 add-i : tie.Need-add-i Inv-loop μ-loop
 add-i c = search needs
@@ -53,14 +64,15 @@ loop-less c = search needs
 
 loop-again : tie.Need-loop-again Inv-loop μ-loop
 loop-again c =
-    let d = c .before .before in
+    let d = c .before .before .before in
     let l = d .before .before .loop in
     let root = d .before .before .before .before .root-step .result in
     let t : Steps = record { at = l .at; n = l .n } in
-    ⊎-elim
-    (λ w. (omega arith, omega (arith, w .2), rw (w .1, w .2) (turn-sounds (rootAlone root) (l .i) t (l .stream) (d .chance .result) (l .inv .2) (d .chance .ensures) (w .0 .taken))))
-    (λ w. (omega arith, omega (arith, w .2), rw (w .1, w .2) (turn-rests (rootAlone root) (l .i) t (l .stream) (d .chance .result) (l .inv .2) (d .chance .ensures) (w .0 .left))))
-    (c .before .if1 .came)
+    (
+      omega arith,
+      omega (arith, byte (d .chance .result .value)),
+      rw (c .before .before .sounding .ensures) (turn-on root (l .i) t (l .stream) (d .chance .result) (l .inv .2) (d .chance .ensures)),
+    )
 
 returns : tie.Need-returns Inv-loop μ-loop
 unfolding bassRhythmOf
@@ -82,7 +94,9 @@ bass-rhythm-spec =
     mul-chance
     array-read-chance
     chance-requires
+    sounding-requires
     array-write-at
+    cast-n
     add-n
     add-i
     loop-less
