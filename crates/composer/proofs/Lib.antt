@@ -7,7 +7,6 @@ pub mod HarmonyLaws
 pub mod KicksLaws
 pub mod PlainLaws
 pub mod RangeLaws
-pub mod SortLaws
 pub mod SpreadLaws
 pub mod TempoLaws
 pub mod VoiceLaws

@@ -1,6 +1,9 @@
 -- Tests that follow from one another. Assumes nothing.
 use mathlib.Core.Path.{_≡_, refl}
 use mathlib.Core.Bool.{Bool, true, false, not, _||_, cond}
+use Prim.Native.Nat.{_≤_}
+use native.Mathlib.Omega.{arith}
+use mir.Val.{boolByte}
 use lib.Dec.{T}
 
 pub holds : (a : Bool) → T a → a ≡ true
@@ -26,3 +29,8 @@ cond-by P false a b p q = q refl
 pub either : {A : Type 0} (P : A → Type 0) (t : Bool) (a b : A) → P a → P b → P (cond t a b)
 either P true a b p q = p
 either P false a b p q = q
+
+-- a test as a number
+pub bit-few : (b : Bool) → boolByte b ≤ 1
+bit-few true = omega arith
+bit-few false = omega arith

@@ -49,6 +49,15 @@ module _ {A : Type 0} (p : A → Bool) where
   count-none [] a = refl
   count-none (x ∷ xs) a = rw (a .0) (omega (arith, count-none xs (a .1)))
 
+  pub filter-append : (xs ys : List A) → filterOf p (xs ++ ys) ≡ filterOf p xs ++ filterOf p ys
+  unfolding filterOf
+  filter-append [] ys = refl
+  filter-append (x ∷ xs) ys = rw (filter-append xs ys) (go (p x))
+    where
+      go : (b : Bool) → cond b (x ∷ (filterOf p xs ++ filterOf p ys)) (filterOf p xs ++ filterOf p ys) ≡ cond b (x ∷ filterOf p xs) (filterOf p xs) ++ filterOf p ys
+      go true = refl
+      go false = refl
+
   pub filter-none : (xs : List A) → All (λ x. p x ≡ false) xs → filterOf p xs ≡ []
   unfolding filterOf
   filter-none [] a = refl

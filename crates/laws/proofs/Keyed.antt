@@ -8,10 +8,11 @@ use native.Mathlib.Omega.{arith}
 use borrow.Author.Tests.{ltb-true, ltb-false, leb-true, eqb-true, eqb-false, le-ltb, le-leb, ne-eqb}
 use lib.Dec.{eqb, ltb, leb}
 use lib.ListN.{length, getD, take, drop}
+use lib.Seq.{length-take-le}
 use Rattle.laws.specs.Lanes.{Rises}
 use Rattle.laws.specs.Lists.{filterOf}
 use Rattle.laws.specs.Sorts.{count, All, Sorted}
-use Rattle.laws.proofs.Counts.{count-none, filter-none}
+use Rattle.laws.proofs.Counts.{count-most, count-none, filter-none}
 use Rattle.laws.proofs.Sorts.{all-sub}
 
 -- in the order of a key
@@ -43,6 +44,19 @@ module _ {A : Type 0} (f : A → ℕ) (v : ℕ) where
 
   none-below : (x : A) (xs : List A) → v ≤ f x → All (λ y. by f x y ≡ true) xs → All (λ y. ltb (f y) v ≡ false) xs
   none-below x xs h a = all-sub (λ y. by f x y ≡ true) (λ y. ltb (f y) v ≡ false) (λ y l. le-ltb (f y) v (omega (arith, leb-true (f x) (f y) l))) xs a
+
+  -- if the first i are below and the next is not, there are i
+  pub below-first : (d : A) (xs : List A) (i : ℕ) → Sorted (by f) xs → i < length xs → count (λ x. ltb (f x) v) (take i xs) ≡ i → ltb (f (getD xs i d)) v ≡ false → count (λ x. ltb (f x) v) xs ≡ i
+  below-first d [] i s h c e = absurd (not-suc-le-zero h)
+  below-first d (x ∷ xs) zero s h c e = rw e (omega (arith, count-none (λ x. ltb (f x) v) xs (none-below x xs (ltb-false (f x) v e) (s .0))))
+  below-first d (x ∷ xs) (suc i) s h c e = go (ltb (f x) v) c (λ q. below-first d xs i (s .1) (le-of-suc-le-suc h) q e)
+    where
+      few : count (λ x. ltb (f x) v) (take i xs) ≤ i
+      few = omega (arith, count-most (λ x. ltb (f x) v) (take i xs), length-take-le i xs (omega (arith, le-of-suc-le-suc h)))
+
+      go : (t : Bool) → cond t 1 0 + count (λ x. ltb (f x) v) (take i xs) ≡ suc i → (count (λ x. ltb (f x) v) (take i xs) ≡ i → count (λ x. ltb (f x) v) xs ≡ i) → cond t 1 0 + count (λ x. ltb (f x) v) xs ≡ suc i
+      go true q r = omega (arith, r (omega (arith, q)))
+      go false q r = absurd (omega (arith, q, few))
 
   -- at the front, where none is below
   run-front : (xs : List A) → Sorted (by f) xs → All (λ y. ltb (f y) v ≡ false) xs → take (count (λ x. eqb (f x) v) xs) xs ≡ filterOf (λ x. eqb (f x) v) xs

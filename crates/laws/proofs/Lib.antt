@@ -2,6 +2,7 @@ pub mod Bools
 pub mod Bounds
 pub mod Counts
 pub mod Exact
+pub mod Insertion
 pub mod Joins
 pub mod Keyed
 pub mod Lanes
@@ -17,3 +18,4 @@ pub mod Sorts
 pub mod Splices
 pub mod Truncation
 pub mod Writes
+pub mod Written

@@ -1,12 +1,10 @@
 -- A score's lanes in bytes: each event has its lane's width and stands at its place, its first byte is its bar, and the events of one
 -- bar stand together. Assumes nothing.
 use mathlib.Core.Path.{_≡_, refl, sym, ap, _∙_}
-use mathlib.Core.Bool.{Bool, true, false, cond}
-use mathlib.Core.List.{List, [], _∷_, _++_, map}
-use Prim.Native.Nat.{ℕ, zero, suc, _+_, _-_, _*_, _≤_, _<_}
-use native.Mathlib.Nat.{not-suc-le-zero, le-of-suc-le-suc}
+use mathlib.Core.Bool.{Bool, true, false}
+use mathlib.Core.List.{List, [], _++_, map}
+use Prim.Native.Nat.{ℕ, _+_, _-_, _*_, _≤_, _<_}
 use native.Mathlib.Omega.{arith}
-use borrow.Author.Tests.{ltb-false, leb-true, le-ltb}
 use lib.Dec.{eqb, ltb}
 use lib.ListN.{length, getD, take, drop}
 use lib.Seq.{take-all, length-take-le}
@@ -21,11 +19,11 @@ use Rattle.composer.specs.declared.score.Score.{Score}
 use Rattle.pages.specs.Lane.{widthOf, countIn, noteBytes, hitBytes, barIn, eventsOf, runOf, earlier, drawnFor, runIn}
 use Rattle.pages.specs.Page.{shown, barSize}
 use Rattle.pages.specs.declared.lane.Lane.{Lane}
-use Rattle.laws.proofs.Counts.{count-most, count-filter, count-map, count-on, count-none, all-kept}
+use Rattle.laws.proofs.Counts.{count-most, count-filter, count-map, count-on, all-kept}
 use Rattle.laws.proofs.Joins.{length-joined, times-on, joined-run-on}
-use Rattle.laws.proofs.Keyed.{by, count-below, run-of-key, rises-sorted, sorted-map}
+use Rattle.laws.proofs.Keyed.{by, count-below, run-of-key, rises-sorted, sorted-map, below-first}
 use Rattle.laws.proofs.Lists.{length-map-take, map-take-at}
-use Rattle.laws.proofs.Sorts.{all-every, all-map, all-sub}
+use Rattle.laws.proofs.Sorts.{all-every, all-map}
 use Rattle.laws.proofs.Writes.{wrote-then, wrote-as}
 
 -- ---- one event
@@ -80,27 +78,6 @@ module _ {A : Type 0} (bytes : A → List ℕ) (d : A) (w : ℕ) (xs : List A) (
       let on = joined-run-on events from i begun (omega (arith, h, length-map-take bytes xs n k)) in
       let here = map-take-at bytes xs n i d [] h k in
       wrote-as (sym (times-on w from i begun)) (ap (λ (l : List ℕ). joined (take (i - from) (drop from events)) ++ l) (sym here) ∙ sym on) (wrote-then v e)
-
--- ---- entries below v in a list whose keys never fall
-module _ {A : Type 0} (f : A → ℕ) (v : ℕ) (d : A) where
-  abbrev below : A → Bool
-  below x = ltb (f x) v
-
-  none-below : (x : A) (xs : List A) → below x ≡ false → All (λ y. by f x y ≡ true) xs → All (λ y. below y ≡ false) xs
-  none-below x xs h a = all-sub (λ y. by f x y ≡ true) (λ y. below y ≡ false) (λ y l. le-ltb (f y) v (omega (arith, ltb-false (f x) v h, leb-true (f x) (f y) l))) xs a
-
-  -- if the first i are below and the next is not, there are i
-  below-first : (xs : List A) (i : ℕ) → Sorted (by f) xs → i < length xs → count below (take i xs) ≡ i → below (getD xs i d) ≡ false → count below xs ≡ i
-  below-first [] i s h c e = absurd (not-suc-le-zero h)
-  below-first (x ∷ xs) zero s h c e = rw e (omega (arith, count-none below xs (none-below x xs e (s .0))))
-  below-first (x ∷ xs) (suc i) s h c e = go (below x) c (λ q. below-first xs i (s .1) (le-of-suc-le-suc h) q e)
-    where
-      few : count below (take i xs) ≤ i
-      few = omega (arith, count-most below (take i xs), length-take-le i xs (omega (arith, le-of-suc-le-suc h)))
-
-      go : (t : Bool) → cond t 1 0 + count below (take i xs) ≡ suc i → (count below (take i xs) ≡ i → count below xs ≡ i) → cond t 1 0 + count below xs ≡ suc i
-      go true q r = omega (arith, r (omega (arith, q)))
-      go false q r = absurd (omega (arith, q, few))
 
 module _ (s : Score) (p : LanesPromise s) where
   pub length-events : (lane : Lane) → length (eventsOf s lane) ≡ countIn s lane

@@ -4,19 +4,20 @@ use mathlib.Core.Bool.{Bool, true, false, cond}
 use mathlib.Core.List.{List, [], _∷_, _++_, append-nil}
 use Prim.Native.Nat.{ℕ, zero, suc, _+_, _-_, _<_, _≤_}
 use native.Mathlib.Numerals.{add-one}
-use native.Mathlib.Nat.{le-refl, not-suc-le-zero, le-of-suc-le-suc}
+use native.Mathlib.Nat.{not-suc-le-zero, le-of-suc-le-suc}
 use native.Mathlib.Omega.{arith}
 use lib.Dec.{ltb}
-use lib.ListN.{length, take, getD, set, replicate, length-append, length-set, getD-replicate}
-use lib.Seq.{take-at, take-suc, take-set-le, set-set, set-out, set-getD, getD-take, length-take-le, ext-getD, getD-append-add}
+use lib.ListN.{length, take, getD, set, replicate, length-append}
+use lib.Seq.{take-at, take-suc, set-out, getD-take, length-take-le, ext-getD}
 use lib.Ieee.{Float, nan}
 use borrow.Author.Tests.{ltb-true, ltb-false}
 use Rattle.laws.specs.Lists.{listTo, pad}
-use Rattle.laws.proofs.Lists.{pad-push, length-pad, length-list-to, list-to-at}
+use Rattle.laws.proofs.Lists.{pad-push, length-list-to, list-to-at}
 use Rattle.composer.specs.Note.{zero32}
 use Rattle.composer.specs.Lead.Beats.{pastBeats, beatsOf, listOf, addOf, without, leftAt, nearOf, moreOf, thinOf}
 use Rattle.composer.specs.declared.lead.beats.Beats.{Beats}
 use Rattle.composer.proofs.lead.SettleLaws.{none-near}
+use Rattle.laws.proofs.Written.{Written, rest-is, written-none, written-over, written-more, written-list}
 
 pub list-back : (xs : List Float) → listOf (beatsOf xs) ≡ xs
 unfolding pad
@@ -69,58 +70,16 @@ module _ (a : List Float) (k n : ℕ) (h : k < n) (l : n ≤ length a) where
 
 -- ---- behind the beats
 pub rest-zero : (xs : List Float) (i : ℕ) → length xs ≤ i → i < 7 → getD (beatsOf xs .at) i nan ≡ zero32
-unfolding pad
-rest-zero xs i h l =
-    let r = replicate (7 - length xs) zero32 in
-    let e : i ≡ length xs + (i - length xs) = omega arith in
-    ap (λ (j : ℕ). getD (xs ++ r) j nan) e ∙ getD-append-add xs r (i - length xs) nan ∙ getD-replicate (7 - length xs) (i - length xs) zero32 nan (omega arith)
+rest-zero xs i h l = rest-is zero32 7 xs i nan h l
 
--- ---- a list that a loop writes, with one entry behind it that the next may replace
-pub record Written (xs at : List Float) (n : ℕ) : Type 0 where
-  pub size : length at ≡ 7
-  pub count : n ≡ length xs
-  pub cleared : set at n zero32 ≡ pad zero32 7 xs
-
-pub written-none : Written [] (replicate 7 zero32) 0
-unfolding pad
-written-none = record { size = refl; count = refl; cleared = refl }
-
--- a zero behind the beats changes nothing
-pad-rest : (xs : List Float) (i : ℕ) → length xs ≤ 7 → length xs ≤ i → set (pad zero32 7 xs) i zero32 ≡ pad zero32 7 xs
-pad-rest xs i l h = go (ltb i 7) refl
-  where
-    go : (t : Bool) → ltb i 7 ≡ t → set (pad zero32 7 xs) i zero32 ≡ pad zero32 7 xs
-    go true e = ap (λ (z : Float). set (pad zero32 7 xs) i z) (sym (rest-zero xs i h (ltb-true i 7 e))) ∙ set-getD (pad zero32 7 xs) i nan
-    go false e = let g = ltb-false i 7 e in set-out (pad zero32 7 xs) i zero32 (omega (arith, length-pad zero32 7 xs l))
-
-module _ (xs at : List Float) (n : ℕ) (x : Float) (w : Written xs at n) where
-  -- one that goes is cleared with the entry
-  pub written-over : Written xs (set at n x) n
-  written-over = record { size = length-set at n x ∙ w .size; count = w .count; cleared = set-set at n x zero32 ∙ w .cleared }
-
-  -- one that stays is the list's last
-  pub written-more : n < 7 → Written (xs ++ (x ∷ [])) (set at n x) (n + 1)
-  written-more h =
-      let l : length (xs ++ (x ∷ [])) ≡ length xs + 1 = length-append xs (x ∷ []) in
-      let k = w .count in
-      let e : set at n x ≡ pad zero32 7 (xs ++ (x ∷ [])) = sym (set-set at n zero32 x) ∙ ap (λ (ys : List Float). set ys n x) (w .cleared) ∙ pad-push zero32 7 xs x n (sym k) h in
-      record {
-        size = length-set at n x ∙ w .size;
-        count = omega arith;
-        cleared = ap (λ (ys : List Float). set ys (n + 1) zero32) e ∙ pad-rest (xs ++ (x ∷ [])) (n + 1) (omega arith) (omega arith);
-      }
-
-pub written-list : (xs at : List Float) (n : ℕ) → Written xs at n → take n at ≡ xs
-unfolding pad
-written-list xs at n w = sym (take-set-le n at n zero32 (le-refl n)) ∙ ap (λ (ys : List Float). take n ys) (w .cleared) ∙ take-at xs (replicate (7 - length xs) zero32) n (sym (w .count))
-
+-- ---- beats that a loop has written
 beats-are : (a b : List Float) (m k : ℕ) → a ≡ b → m ≡ k → _≡_ {A = Beats} (record { at = a; n = m }) (record { at = b; n = k })
 beats-are a b m k e f = rw (e, f)
 
-pub written-rest : (xs at : List Float) (n : ℕ) → Written xs at n → _≡_ {A = Beats} (record { at = set at n zero32; n = n }) (beatsOf xs)
+pub written-rest : (xs at : List Float) (n : ℕ) → Written zero32 7 xs at n → _≡_ {A = Beats} (record { at = set at n zero32; n = n }) (beatsOf xs)
 written-rest xs at n w = beats-are (set at n zero32) (pad zero32 7 xs) n (length xs) (w .cleared) (w .count)
 
-pub written-full : (xs at : List Float) (n : ℕ) → Written xs at n → n ≡ 7 → _≡_ {A = Beats} (record { at = at; n = n }) (beatsOf xs)
+pub written-full : (xs at : List Float) (n : ℕ) → Written zero32 7 xs at n → n ≡ 7 → _≡_ {A = Beats} (record { at = at; n = n }) (beatsOf xs)
 written-full xs at n w e =
     let l = w .size in
     beats-are at (pad zero32 7 xs) n (length xs) (sym (set-out at n zero32 (omega arith)) ∙ w .cleared) (w .count)
@@ -151,32 +110,32 @@ thin-snoc k (y ∷ xs) x = go (nearOf y k) (thin-snoc k xs x) (thin-snoc y xs x)
     go true p q = p
     go false p q = ap (λ (zs : List Float). y ∷ zs) q
 
-thin-one : (x : Float) → Written (thinOf nan (x ∷ [])) (set (replicate 7 zero32) 0 x) 1
+thin-one : (x : Float) → Written zero32 7 (thinOf nan (x ∷ [])) (set (replicate 7 zero32) 0 x) 1
 unfolding thinOf
-thin-one x = rw (none-near x) (written-more [] (replicate 7 zero32) 0 x written-none (omega arith))
+thin-one x = rw (none-near x) (written-more zero32 7 [] (replicate 7 zero32) 0 x (written-none zero32 7) (omega arith))
 
 -- the first is always kept
-pub thin-first : (a : List Float) → 0 < length a → Written (thinOf nan (take 1 a)) (set (replicate 7 zero32) 0 (getD a 0 nan)) 1
+pub thin-first : (a : List Float) → 0 < length a → Written zero32 7 (thinOf nan (take 1 a)) (set (replicate 7 zero32) 0 (getD a 0 nan)) 1
 thin-first [] h = absurd (not-suc-le-zero h)
 thin-first (x ∷ xs) h = thin-one x
 
 -- a turn of the loop that thins
-module _ (a at : List Float) (i n : ℕ) (h : i < length a) (l : n < 7) (some : 0 < n) (w : Written (thinOf nan (take i a)) at n) where
+module _ (a at : List Float) (i n : ℕ) (h : i < length a) (l : n < 7) (some : 0 < n) (w : Written zero32 7 (thinOf nan (take i a)) at n) where
   last-kept : getD at (n - 1) nan ≡ lastOf nan (thinOf nan (take i a))
   last-kept =
       let xs = thinOf nan (take i a) in
       let c = w .count in
-      sym (getD-take n at (n - 1) nan (omega arith)) ∙ ap (λ (ys : List Float). getD ys (n - 1) nan) (written-list xs at n w) ∙ sym (last-at nan xs (n - 1) nan (omega arith))
+      sym (getD-take n at (n - 1) nan (omega arith)) ∙ ap (λ (ys : List Float). getD ys (n - 1) nan) (written-list zero32 7 xs at n w) ∙ sym (last-at nan xs (n - 1) nan (omega arith))
 
-  pub thin-on : (m : ℕ) → m ≡ moreOf (getD a i nan) (getD at (n - 1) nan) → Written (thinOf nan (take (i + 1) a)) (set at n (getD a i nan)) (n + m)
+  pub thin-on : (m : ℕ) → m ≡ moreOf (getD a i nan) (getD at (n - 1) nan) → Written zero32 7 (thinOf nan (take (i + 1) a)) (set at n (getD a i nan)) (n + m)
   thin-on m e =
       let x = getD a i nan in
       let xs = thinOf nan (take i a) in
       rw (add-one i, take-suc a i nan h, thin-snoc nan (take i a) x, e, last-kept) (go (nearOf x (lastOf nan xs)))
     where
-      go : (t : Bool) → Written (thinOf nan (take i a) ++ cond t [] (getD a i nan ∷ [])) (set at n (getD a i nan)) (n + cond t 0 1)
-      go true = rw (append-nil) (subst (λ (k : ℕ). Written (thinOf nan (take i a)) (set at n (getD a i nan)) k) (omega arith) (written-over (thinOf nan (take i a)) at n (getD a i nan) w))
-      go false = written-more (thinOf nan (take i a)) at n (getD a i nan) w l
+      go : (t : Bool) → Written zero32 7 (thinOf nan (take i a) ++ cond t [] (getD a i nan ∷ [])) (set at n (getD a i nan)) (n + cond t 0 1)
+      go true = rw (append-nil) (subst (λ (k : ℕ). Written zero32 7 (thinOf nan (take i a)) (set at n (getD a i nan)) k) (omega arith) (written-over zero32 7 (thinOf nan (take i a)) at n (getD a i nan) w))
+      go false = written-more zero32 7 (thinOf nan (take i a)) at n (getD a i nan) w l
 
 -- ---- bars of at most seven beats
 pub set-short : (bars : List Beats) (i : ℕ) (b : Beats) → b .n ≤ 7 → ((k : ℕ) → getD bars k pastBeats .n ≤ 7) → (k : ℕ) → getD (set bars i b) k pastBeats .n ≤ 7

@@ -1,27 +1,28 @@
 -- What a turn of each loop over the scale tells of the definitions, and that a walk keeps in the window. Assumes nothing.
 use mathlib.Core.Path.{_≡_, refl}
-use mathlib.Core.Bool.{Bool, true, false, cond}
+use mathlib.Core.Bool.{Bool, true, false, cond, _||_, or-false}
 use mathlib.Core.List.{List}
 use Prim.Native.Nat.{ℕ, zero, suc, _+_, _-_, _%_, _≤_, _<_}
 use native.Mathlib.Numerals.{add-one}
 use native.Mathlib.Omega.{arith}
-use borrow.Author.Tests.{eq-eqb, ne-eqb}
+use lib.Dec.{eqb}
 use lib.ListN.{length, getD, drop, drop-of-length-le}
 use lib.Seq.{drop-cons}
 use Rattle.composer.specs.Lead.Scale.{hasOf, fitsOf, candidateOf, snapFrom, movedOf, roomOf, dueAfter, walkOf}
 
 -- ---- the scale's classes
-pub has-here : (l : List ℕ) (pc i : ℕ) → i < length l → getD l i 0 ≡ pc → true ≡ hasOf (drop i l) pc
+pub has-next : (l : List ℕ) (pc i : ℕ) (found : Bool) → i < length l → (found || hasOf (drop i l) pc) ≡ ((found || eqb (getD l i 0) pc) || hasOf (drop (i + 1) l) pc)
 unfolding hasOf
-has-here l pc i h e = rw (drop-cons l i 0, eq-eqb (getD l i 0) pc e)
+has-next l pc i found h = rw (add-one, drop-cons l i 0) (go found (eqb (getD l i 0) pc))
+  where
+    go : (a b : Bool) → (a || cond b true (hasOf (drop (suc i) l) pc)) ≡ ((a || b) || hasOf (drop (suc i) l) pc)
+    go true b = refl
+    go false true = refl
+    go false false = refl
 
-pub has-next : (l : List ℕ) (pc i : ℕ) → i < length l → (getD l i 0 ≡ pc → ⊥) → hasOf (drop i l) pc ≡ hasOf (drop (i + 1) l) pc
+pub has-end : (l : List ℕ) (pc i : ℕ) (found : Bool) → length l ≤ i → (found || hasOf (drop i l) pc) ≡ found
 unfolding hasOf
-has-next l pc i h e = rw (add-one, drop-cons l i 0, ne-eqb (getD l i 0) pc e)
-
-pub has-end : (l : List ℕ) (pc i : ℕ) → length l ≤ i → false ≡ hasOf (drop i l) pc
-unfolding hasOf
-has-end l pc i h = rw (drop-of-length-le l h)
+has-end l pc i found h = rw (drop-of-length-le l h) (or-false found)
 
 -- ---- the snap: what is left to find at distance d, from a side on
 abbrev pub ahead : List ℕ → ℕ → ℕ → ℕ → ℕ → ℕ → ℕ

@@ -22,7 +22,8 @@ use Rattle.composer.specs.Lead.Statement.{leadGrid, emptyFrom, notesOf, 
 use Rattle.composer.specs.declared.spread.Drawn.{Drawn}
 use Rattle.composer.specs.declared.lead.beats.Beats.{Beats}
 use Rattle.composer.specs.declared.lead.push.BeatsDraw.{BeatsDraw}
-use Rattle.composer.proofs.lead.BeatsLaws.{list-back, add-beats, Written, written-none, written-over, written-more, written-list}
+use Rattle.composer.proofs.lead.BeatsLaws.{list-back, add-beats}
+use Rattle.laws.proofs.Written.{Written, written-none, written-over, written-more, written-list}
 
 -- the slots that sound, of the first n
 unfoldable pub keptTo : List Bool → ℕ → List Float
@@ -97,11 +98,11 @@ module _ (p : Float) (s : NoiseStream) where
 pub record Held (d : BeatsDraw) (at : List Float) (n : ℕ) (stream : NoiseStream) : Type 0 where
   pub xs : List Float
   pub is : d .beats ≡ beatsOf xs
-  pub written : Written xs at n
+  pub written : Written zero32 7 xs at n
   pub after : stream ≡ d .stream
 
 pub held-none : (s : NoiseStream) → Held (emptyFrom s) (replicate 7 zero32) 0 s
-held-none s = record { xs = []; is = refl; written = written-none; after = refl }
+held-none s = record { xs = []; is = refl; written = written-none zero32 7; after = refl }
 
 push-beats : (d : BeatsDraw) (x : Float) (q : Drawn) (xs : List Float) → length xs < 7 → d .beats ≡ beatsOf xs → q ≡ pushOf (d .stream) x → pushOnOf d x .beats ≡ beatsOf (xs ++ (q .value ∷ []))
 unfolding pushOnOf
@@ -116,10 +117,10 @@ held-on : (d : BeatsDraw) (at : List Float) (n : ℕ) (stream : NoiseStream) (x 
 held-on d at n stream x q true h t e =
     let f : q ≡ pushOf (d .stream) x = e ∙ ap (λ (s : NoiseStream). pushOf s x) (t .after) in
     let k = t .written .count in
-    record { xs = t .xs ++ (q .value ∷ []); is = push-beats d x q (t .xs) (omega arith) (t .is) f; written = written-more (t .xs) at n (q .value) (t .written) h; after = push-after d x q f }
+    record { xs = t .xs ++ (q .value ∷ []); is = push-beats d x q (t .xs) (omega arith) (t .is) f; written = written-more zero32 7 (t .xs) at n (q .value) (t .written) h; after = push-after d x q f }
 held-on d at n stream x q false h t e =
     let k : n ≡ n + 0 = omega arith in
-    record { xs = t .xs; is = t .is; written = subst (λ (m : ℕ). Written (t .xs) (set at n (q .value)) m) k (written-over (t .xs) at n (q .value) (t .written)); after = t .after }
+    record { xs = t .xs; is = t .is; written = subst (λ (m : ℕ). Written zero32 7 (t .xs) (set at n (q .value)) m) k (written-over zero32 7 (t .xs) at n (q .value) (t .written)); after = t .after }
 
 -- a turn of the loop that pushes
 pub held-turn : (sounds : List Bool) (s : NoiseStream) (i : ℕ) (at : List Float) (n : ℕ) (stream : NoiseStream) (q : Drawn) (m : ℕ) (next : NoiseStream) → n < 7
@@ -139,7 +140,7 @@ drawOf b s = record { beats = b; stream = s }
 held-settled : (d : BeatsDraw) (at : List Float) (n : ℕ) (stream : NoiseStream) (done : Beats) → Held d at n stream → done ≡ beatsOf (settled (take n at)) → drawOf done stream ≡ settledOf d
 held-settled d at n stream done t e =
     let xs = t .xs in
-    rw (e, t .after, written-list xs at n (t .written), t .is, list-back xs)
+    rw (e, t .after, written-list zero32 7 xs at n (t .written), t .is, list-back xs)
 
 pushes-are : (p : Float) (s : NoiseStream) (sounds : List Bool) (st : NoiseStream) → Sounding p s sounds st 7 → pushesOf (slotsOf s p) ≡ foldl pushOnOf (emptyFrom st) (keptTo sounds 7)
 unfolding pushesOf slotsOf

@@ -1,35 +1,86 @@
 -- What a turn of each loop over tones tells of the definitions. Assumes nothing.
-use mathlib.Core.Path.{_≡_, refl, sym, ap, _∙_}
+use mathlib.Core.Path.{_≡_, refl, sym, ap, subst, _∙_}
 use mathlib.Core.Bool.{Bool, true, false, cond, _&&_}
 use mathlib.Core.List.{List, [], _∷_, _++_, append-nil}
-use Prim.Native.Nat.{ℕ, zero, suc, _+_, _-_, _%_, _≤_, _<_}
+use Prim.Native.Nat.{ℕ, zero, suc, _+_, _-_, _%_, _≤_, _<_, min}
 use native.Mathlib.Numerals.{add-one}
 use native.Mathlib.Omega.{arith}
-use borrow.Author.Tests.{ne-eqb}
-use lib.Dec.{eqb}
-use lib.ListN.{length, getD, take, drop, set, replicate, drop-of-length-le, length-append, length-take}
-use lib.Seq.{drop-cons, take-suc, take-at}
+use borrow.Author.Tests.{eq-eqb, ne-eqb, eqb-true, eqb-false, le-leb, lt-leb, leb-true, leb-false, ltb-true, ltb-false}
+use mir.Val.{boolByte}
+use lib.Dec.{leb, ltb, eqb}
+use lib.ListN.{length, getD, take, drop, set, replicate, drop-of-length-le, length-append, length-take, length-set, getD-replicate}
+use lib.Seq.{drop-cons, take-suc, take-at, getD-set-same, getD-set-other, set-out}
 use Rattle.laws.specs.Lists.{pad, filterOf}
-use Rattle.laws.proofs.Lists.{pad-push}
 use Rattle.composer.specs.Lead.Scale.{hasOf}
-use Rattle.composer.specs.Lead.Tones.{aboveOf, inChordOf, isSungOf, noClass, kept, one, tonesIn, packed, listed, tonesInOf, hasClass, scaleNotesIn, scaleNotesOf, chordTonesOf, isOther, closerOf, closest, nearestOf}
+use Rattle.composer.specs.Lead.Tones.{aboveOf, inChordOf, lowered, lowestFrom, lowestOf, isToneOf, isSungOf, noClass, kept, one, tonesIn, packed, listed, tonesInOf, hasClass, scaleNotesIn, scaleNotesOf, chordTonesOf, isOther, rankOf, closerOf, closest, nearestOf}
 use Rattle.composer.specs.Lead.Ground.{groundOf, groundFrom}
 use Rattle.composer.specs.declared.chord.Chord.{Chord}
 use Rattle.composer.specs.declared.style.LeadStyle.{LeadStyle}
 use Rattle.composer.specs.declared.lead.tones.Tones.{Tones}
+use Rattle.laws.proofs.Counts.{count-filter, count-most, filter-append}
+use Rattle.laws.proofs.Written.{Written, written-none, written-over, written-more}
 
--- ---- a chord's notes
-pub chord-here : (n : ℕ) (l : List ℕ) (i : ℕ) → i < length l → aboveOf (getD l i 0) n ≡ true → true ≡ inChordOf (drop i l) n
-unfolding inChordOf
-chord-here n l i h e = rw (drop-cons l i 0, e)
+-- ---- a chord's notes: a table of the lowest of each class tells whether a note is one of them
+same-class : (c n : ℕ) → c % 12 ≡ n % 12 → aboveOf c n ≡ leb c n
+same-class c n e = go (leb c n) refl
+  where
+    go : (b : Bool) → leb c n ≡ b → (b && eqb ((n - c) % 12) 0) ≡ b
+    go true f = let h = leb-true c n f in eq-eqb ((n - c) % 12) 0 (omega arith)
+    go false f = refl
 
-pub chord-next : (n : ℕ) (l : List ℕ) (i : ℕ) → i < length l → aboveOf (getD l i 0) n ≡ false → inChordOf (drop i l) n ≡ inChordOf (drop (i + 1) l) n
-unfolding inChordOf
-chord-next n l i h e = rw (add-one, drop-cons l i 0, e)
+other-class : (c n : ℕ) → (c % 12 ≡ n % 12 → ⊥) → aboveOf c n ≡ false
+other-class c n e = go (leb c n) refl
+  where
+    go : (b : Bool) → leb c n ≡ b → (b && eqb ((n - c) % 12) 0) ≡ false
+    go true f = let h = leb-true c n f in ne-eqb ((n - c) % 12) 0 (λ g. e (omega arith))
+    go false f = refl
 
-pub chord-end : (n : ℕ) (l : List ℕ) (i : ℕ) → length l ≤ i → false ≡ inChordOf (drop i l) n
-unfolding inChordOf
-chord-end n l i h = rw (drop-of-length-le l h)
+least-below : (a b n : ℕ) → leb (min a b) n ≡ cond (leb a n) true (leb b n)
+least-below a b n = go (leb a n) (leb b n) refl refl
+  where
+    go : (s t : Bool) → leb a n ≡ s → leb b n ≡ t → leb (min a b) n ≡ cond s true t
+    go true t e f = let h = leb-true a n e in le-leb (min a b) n (omega arith)
+    go false true e f = let h = leb-true b n f in le-leb (min a b) n (omega arith)
+    go false false e f = let h = leb-false a n e in let k = leb-false b n f in lt-leb (min a b) n (omega arith)
+
+cond-same : (a : Bool) → cond a true false ≡ a
+cond-same true = refl
+cond-same false = refl
+
+cond-assoc : (a b c : Bool) → cond (cond a true b) true c ≡ cond a true (cond b true c)
+cond-assoc true b c = refl
+cond-assoc false b c = refl
+
+lowered-tone : (lowest : List ℕ) (c n : ℕ) → length lowest ≡ 12 → isToneOf (lowered lowest c) n ≡ cond (isToneOf lowest n) true (aboveOf c n)
+lowered-tone lowest c n l = go (eqb (c % 12) (n % 12)) refl
+  where
+    go : (b : Bool) → eqb (c % 12) (n % 12) ≡ b → isToneOf (lowered lowest c) n ≡ cond (isToneOf lowest n) true (aboveOf c n)
+    go true f =
+        let e : c % 12 ≡ n % 12 = eqb-true (c % 12) (n % 12) f in
+        rw (same-class c n e, e, getD-set-same lowest (n % 12) (min (getD lowest (n % 12) 0) c) 0 (omega arith)) (least-below (getD lowest (n % 12) 0) c n)
+    go false f =
+        let e : (c % 12 ≡ n % 12 → ⊥) = eqb-false (c % 12) (n % 12) f in
+        rw (other-class c n e, getD-set-other lowest (c % 12) (n % 12) (min (getD lowest (c % 12) 0) c) 0 (λ g. e (sym g))) (sym (cond-same (isToneOf lowest n)))
+
+lowest-tone : (chord lowest : List ℕ) (n : ℕ) → length lowest ≡ 12 → isToneOf (lowestFrom lowest chord) n ≡ cond (isToneOf lowest n) true (inChordOf chord n)
+unfolding lowestFrom inChordOf
+lowest-tone [] lowest n l = sym (cond-same (isToneOf lowest n))
+lowest-tone (c ∷ cs) lowest n l =
+    lowest-tone cs (lowered lowest c) n (length-set lowest (c % 12) (min (getD lowest (c % 12) 0) c) ∙ l)
+    ∙ ap (λ (b : Bool). cond b true (inChordOf cs n)) (lowered-tone lowest c n l) ∙ cond-assoc (isToneOf lowest n) (aboveOf c n) (inChordOf cs n)
+
+pub tone-is : (chord : List ℕ) (n : ℕ) → n < 256 → isToneOf (lowestOf chord) n ≡ inChordOf chord n
+tone-is chord n h =
+    lowest-tone chord (replicate 12 256) n refl
+    ∙ ap (λ (b : Bool). cond b true (inChordOf chord n)) (ap (λ (k : ℕ). leb k n) (getD-replicate 12 (n % 12) 256 0 (omega arith)) ∙ lt-leb 256 n h)
+
+pub lowest-next : (lowest l : List ℕ) (i : ℕ) → i < length l → lowestFrom lowest (drop i l) ≡ lowestFrom (lowered lowest (getD l i 0)) (drop (i + 1) l)
+unfolding lowestFrom
+lowest-next lowest l i h = rw (add-one, drop-cons l i 0)
+
+pub lowest-end : (lowest l : List ℕ) (i : ℕ) → length l ≤ i → lowestFrom lowest (drop i l) ≡ lowest
+unfolding lowestFrom
+lowest-end lowest l i h = rw (drop-of-length-le l h)
 
 -- ---- the nearest
 pub near-first : (t : ℕ) (l : List ℕ) → 0 < length l → nearestOf l t ≡ closest t (getD l 0 0) (drop 1 l)
@@ -45,33 +96,57 @@ pub near-end : (t best : ℕ) (l : List ℕ) (i : ℕ) → length l ≤ i → cl
 unfolding closest
 near-end t best l i h = rw (drop-of-length-le l h)
 
+-- the rank holds the note in its lower byte, and the lower rank is the closer note's
+pub rank-note : (t x : ℕ) → x < 256 → rankOf t x % 256 ≡ x
+rank-note t x h = omega arith
+
+pub rank-first : (t x : ℕ) → x < 256 → rankOf t x ≡ rankOf t (rankOf t x % 256)
+rank-first t x h = rw (rank-note t x h)
+
+pub rank-next : (t best x : ℕ) → x < 256 → best ≡ rankOf t (best % 256)
+    → (min best (rankOf t x) % 256 ≡ closerOf t (best % 256) x) × (min best (rankOf t x) ≡ rankOf t (min best (rankOf t x) % 256))
+rank-next t best x h e = go (ltb (rankOf t x) best) refl
+  where
+    go : (b : Bool) → ltb (rankOf t x) best ≡ b
+        → (min best (rankOf t x) % 256 ≡ closerOf t (best % 256) x) × (min best (rankOf t x) ≡ rankOf t (min best (rankOf t x) % 256))
+    go true f =
+        let g = ltb-true (rankOf t x) best f in
+        let m : min best (rankOf t x) ≡ rankOf t x = omega arith in
+        (rw (m, ← e, f) (rank-note t x h), rw m (rank-first t x h))
+    go false f =
+        let g = ltb-false (rankOf t x) best f in
+        let m : min best (rankOf t x) ≡ best = omega arith in
+        (rw (m, ← e, f), rw m e)
+
 -- ---- the tones: what an array and a count hold of those below x
-pub record Holds (passes : ℕ → Bool) (lo x : ℕ) (at : List ℕ) (n : ℕ) : Type 0 where
-  pub list : at ≡ pad 0 20 (kept passes lo (x - lo))
-  pub count : n ≡ length (kept passes lo (x - lo))
-  pub few : n ≤ x - lo
+grown : (passes : ℕ → Bool) (lo x : ℕ) → lo ≤ x → kept passes lo (x + 1 - lo) ≡ kept passes lo (x - lo) ++ one (passes x) x
+unfolding kept
+grown passes lo x low =
+    let e : x + 1 - lo ≡ suc (x - lo) = omega arith in
+    let f : lo + (x - lo) ≡ x = omega arith in
+    rw e (rw f)
 
-module _ (passes : ℕ → Bool) (lo x : ℕ) (low : lo ≤ x) where
-  grown : kept passes lo (x + 1 - lo) ≡ kept passes lo (x - lo) ++ one (passes x) x
-  unfolding kept
-  grown =
-      let e : x + 1 - lo ≡ suc (x - lo) = omega arith in
-      let f : lo + (x - lo) ≡ x = omega arith in
-      rw e (rw f)
+-- one that passes stays, another is written over
+written-one : (b : Bool) (xs at : List ℕ) (n x : ℕ) → n < 20 → Written 0 20 xs at n → Written 0 20 (xs ++ one b x) (set at n x) (n + boolByte b)
+written-one true xs at n x h w = written-more 0 20 xs at n x w h
+written-one false xs at n x h w = rw append-nil (subst (λ (k : ℕ). Written 0 20 xs (set at n x) k) (omega arith) (written-over 0 20 xs at n x w))
 
-  pub holds-one : {at : List ℕ} {n : ℕ} → Holds passes lo x at n → n < 20 → passes x ≡ true → Holds passes lo (x + 1) (set at n x) (n + 1)
-  holds-one {at} {n} h room e =
-      let g : kept passes lo (x + 1 - lo) ≡ kept passes lo (x - lo) ++ (x ∷ []) = grown ∙ ap (λ b. kept passes lo (x - lo) ++ one b x) e in
-      record {
-        list = rw (g, h .list) (pad-push 0 20 (kept passes lo (x - lo)) x n (sym (h .count)) room);
-        count = rw g (omega (arith, h .count, length-append (kept passes lo (x - lo)) (x ∷ [])));
-        few = omega (arith, h .few);
-      }
+pub holds-on : (passes : ℕ → Bool) (lo x : ℕ) (at : List ℕ) (n : ℕ) (b : Bool) → lo ≤ x → n < 20 → b ≡ passes x → Written 0 20 (kept passes lo (x - lo)) at n
+    → Written 0 20 (kept passes lo (x + 1 - lo)) (set at n x) (n + boolByte b)
+holds-on passes lo x at n b low room e w = rw (e, grown passes lo x low) (written-one (passes x) (kept passes lo (x - lo)) at n x room w)
 
-  pub holds-none : {at : List ℕ} {n : ℕ} → Holds passes lo x at n → passes x ≡ false → Holds passes lo (x + 1) at n
-  holds-none {at} {n} h e =
-      let g : kept passes lo (x + 1 - lo) ≡ kept passes lo (x - lo) = grown ∙ ap (λ b. kept passes lo (x - lo) ++ one b x) e ∙ append-nil (kept passes lo (x - lo)) in
-      record { list = rw g (h .list); count = rw g (h .count); few = omega (arith, h .few) }
+-- the first n, with 0 behind them
+abbrev pub cleared : List ℕ → ℕ → Tones
+cleared at n = record { at = set at n 0; n = n }
+
+-- behind a full array nothing is written
+pub cleared-full : {xs at : List ℕ} {n : ℕ} → Written 0 20 xs at n → n ≡ 20 → _≡_ {A = Tones} (record { at = at; n = n }) (cleared at n)
+cleared-full {xs} {at} {n} w e =
+    let l = w .size in
+    ap (λ (ys : List ℕ). record { at = ys; n = n }) (sym (set-out at n 0 (omega arith)))
+
+pub tones-written : (xs at : List ℕ) (n : ℕ) → Written 0 20 xs at n → cleared at n ≡ packed xs
+tones-written xs at n w = rw (w .cleared, w .count)
 
 -- ---- a list in the struct and back
 pub listed-packed : (xs : List ℕ) → listed (packed xs) ≡ xs
@@ -80,29 +155,6 @@ listed-packed xs = take-at xs _ (length xs) refl
 
 -- ---- a filter: what an array and a count hold of the first i entries
 module _ (p : ℕ → Bool) where
-  filter-append : (xs ys : List ℕ) → filterOf p (xs ++ ys) ≡ filterOf p xs ++ filterOf p ys
-  unfolding filterOf
-  filter-append [] ys = refl
-  filter-append (x ∷ xs) ys = rw (filter-append xs ys) (go (p x))
-    where
-      go : (b : Bool) → cond b (x ∷ (filterOf p xs ++ filterOf p ys)) (filterOf p xs ++ filterOf p ys) ≡ cond b (x ∷ filterOf p xs) (filterOf p xs) ++ filterOf p ys
-      go true = refl
-      go false = refl
-
-  filter-few : (xs : List ℕ) → length (filterOf p xs) ≤ length xs
-  unfolding filterOf
-  filter-few [] = omega arith
-  filter-few (x ∷ xs) = go (p x) (filter-few xs)
-    where
-      go : (b : Bool) → length (filterOf p xs) ≤ length xs → length (cond b (x ∷ filterOf p xs) (filterOf p xs)) ≤ suc (length xs)
-      go true h = omega arith
-      go false h = omega arith
-
-  pub record Chosen (all : List ℕ) (i : ℕ) (at : List ℕ) (n : ℕ) : Type 0 where
-    pub list : at ≡ pad 0 20 (filterOf p (take i all))
-    pub count : n ≡ length (filterOf p (take i all))
-    pub few : n ≤ i
-
   filter-one : (b : Bool) (x : ℕ) → p x ≡ b → filterOf p (x ∷ []) ≡ one b x
   unfolding filterOf
   filter-one true x e = rw e
@@ -110,36 +162,26 @@ module _ (p : ℕ → Bool) where
 
   filter-on : (all : List ℕ) (i : ℕ) (b : Bool) → i < length all → p (getD all i 0) ≡ b → filterOf p (take (i + 1) all) ≡ filterOf p (take i all) ++ one b (getD all i 0)
   filter-on all i b h e =
-      ap (λ (k : ℕ). filterOf p (take k all)) (add-one i) ∙ ap (filterOf p) (take-suc all i 0 h) ∙ filter-append (take i all) (getD all i 0 ∷ [])
+      ap (λ (k : ℕ). filterOf p (take k all)) (add-one i) ∙ ap (filterOf p) (take-suc all i 0 h) ∙ filter-append p (take i all) (getD all i 0 ∷ [])
       ∙ ap (λ (ys : List ℕ). filterOf p (take i all) ++ ys) (filter-one b (getD all i 0) e)
 
-  pub chosen-none : (all : List ℕ) → Chosen all 0 (replicate 20 0) 0
-  unfolding filterOf pad
-  chosen-none all = record { list = refl; count = refl; few = omega arith }
+  pub chosen-none : (all : List ℕ) → Written 0 20 (filterOf p (take 0 all)) (replicate 20 0) 0
+  unfolding filterOf
+  chosen-none all = written-none 0 20
 
-  pub chosen-one : (all : List ℕ) (i : ℕ) {at : List ℕ} {n : ℕ} → i < length all → i < 20 → Chosen all i at n → p (getD all i 0) ≡ true → Chosen all (i + 1) (set at n (getD all i 0)) (n + 1)
-  chosen-one all i {at} {n} h room c e =
-      let g = filter-on all i true h e in
-      record {
-        list = rw (g, c .list) (pad-push 0 20 (filterOf p (take i all)) (getD all i 0) n (sym (c .count)) (omega (arith, c .few)));
-        count = rw g (omega (arith, c .count, length-append (filterOf p (take i all)) (getD all i 0 ∷ [])));
-        few = omega (arith, c .few);
-      }
+  pub chosen-on : (all : List ℕ) (i : ℕ) (at : List ℕ) (n : ℕ) (b : Bool) → i < length all → n < 20 → b ≡ p (getD all i 0) → Written 0 20 (filterOf p (take i all)) at n
+      → Written 0 20 (filterOf p (take (i + 1) all)) (set at n (getD all i 0)) (n + boolByte b)
+  chosen-on all i at n b h room e w = rw (filter-on all i b h (sym e)) (written-one b (filterOf p (take i all)) at n (getD all i 0) room w)
 
-  pub chosen-not : (all : List ℕ) (i : ℕ) {at : List ℕ} {n : ℕ} → i < length all → Chosen all i at n → p (getD all i 0) ≡ false → Chosen all (i + 1) at n
-  chosen-not all i {at} {n} h c e =
-      let g = filter-on all i false h e ∙ append-nil (filterOf p (take i all)) in
-      record { list = rw g (c .list); count = rw g (c .count); few = omega (arith, c .few) }
-
-  pub chosen-all : (t : Tones) (i : ℕ) {at : List ℕ} {n : ℕ} → i ≡ t .n → Chosen (t .at) i at n → record { at = at; n = n } ≡ packed (filterOf p (listed t))
-  chosen-all t i e c = rw (← e, c .list, c .count)
+  pub chosen-all : (t : Tones) (i : ℕ) (at : List ℕ) (n : ℕ) → i ≡ t .n → Written 0 20 (filterOf p (take i (t .at))) at n → cleared at n ≡ packed (filterOf p (listed t))
+  chosen-all t i at n e w = tones-written (filterOf p (take i (t .at))) at n w ∙ ap (λ (k : ℕ). packed (filterOf p (take k (t .at)))) e
 
   -- what is kept and then filtered passes both
   filter-kept : (q : ℕ → Bool) (lo k : ℕ) → filterOf p (kept q lo k) ≡ kept (λ n. q n && p n) lo k
   unfolding kept filterOf
   filter-kept q lo zero = refl
   filter-kept q lo (suc k) =
-      filter-append (kept q lo k) (one (q (lo + k)) (lo + k)) ∙ ap (λ (ys : List ℕ). ys ++ filterOf p (one (q (lo + k)) (lo + k))) (filter-kept q lo k)
+      filter-append p (kept q lo k) (one (q (lo + k)) (lo + k)) ∙ ap (λ (ys : List ℕ). ys ++ filterOf p (one (q (lo + k)) (lo + k))) (filter-kept q lo k)
       ∙ ap (λ (ys : List ℕ). kept (λ n. q n && p n) lo k ++ ys) (last (q (lo + k)) (p (lo + k)) refl)
     where
       last : (a b : Bool) → p (lo + k) ≡ b → filterOf p (one a (lo + k)) ≡ one (a && b) (lo + k)
@@ -148,7 +190,7 @@ module _ (p : ℕ → Bool) where
 
 pub chord-tones-few : (t : Tones) (chord : List ℕ) → t .n ≤ 20 → chordTonesOf t chord .n ≤ 20
 chord-tones-few t chord h =
-    omega (arith, filter-few (inChordOf chord) (listed t), length-take (t .n) (t .at))
+    omega (arith, count-filter (inChordOf chord) (listed t), count-most (inChordOf chord) (listed t), length-take (t .n) (t .at))
 
 kept-same : (p q : ℕ → Bool) → ((n : ℕ) → p n ≡ q n) → (lo k : ℕ) → kept p lo k ≡ kept q lo k
 unfolding kept

@@ -1,9 +1,9 @@
 -- A chord's tones in the lead's window, and the one nearest to a note. Definitions only.
 use mathlib.Core.Bool.{Bool, true, false, cond, not, _&&_}
 use mathlib.Core.List.{List, [], _∷_, _++_}
-use Prim.Native.Nat.{ℕ, zero, suc, _+_, _-_, _*_, _%_}
+use Prim.Native.Nat.{ℕ, zero, suc, _+_, _-_, _*_, _%_, min}
 use lib.Dec.{leb, ltb, eqb}
-use lib.ListN.{length, take}
+use lib.ListN.{length, take, getD, set, replicate}
 use Rattle.laws.specs.Lists.{pad, filterOf}
 use Rattle.composer.specs.Lead.Scale.{hasOf}
 use Rattle.composer.specs.declared.lead.tones.Tones.{Tones}
@@ -15,6 +15,21 @@ aboveOf c n = leb c n && eqb ((n - c) % 12) 0
 unfoldable pub inChordOf : List ℕ → ℕ → Bool
 inChordOf [] n = false
 inChordOf (c ∷ cs) n = cond (aboveOf c n) true (inChordOf cs n)
+
+-- of each class the lowest of the chord's notes, or 256
+abbrev pub lowered : List ℕ → ℕ → List ℕ
+lowered lowest c = set lowest (c % 12) (min (getD lowest (c % 12) 0) c)
+
+unfoldable pub lowestFrom : List ℕ → List ℕ → List ℕ
+lowestFrom lowest [] = lowest
+lowestFrom lowest (c ∷ cs) = lowestFrom (lowered lowest c) cs
+
+abbrev pub lowestOf : List ℕ → List ℕ
+lowestOf chord = lowestFrom (replicate 12 256) chord
+
+-- n is not below the lowest of its class
+abbrev pub isToneOf : List ℕ → ℕ → Bool
+isToneOf lowest n = leb (getD lowest (n % 12) 0) n
 
 -- n is a chord tone of the scale, and of another class than `avoid`
 unfoldable pub isSungOf : List ℕ → List ℕ → ℕ → ℕ → Bool

@@ -8,14 +8,13 @@ use crate::chord::OCTAVE;
 pub(crate) fn has(pool: &[u8], pc: u8) -> bool
     ensures { λ r. ⌜ r ≡ hasOf (now (pool .entry)) pc ⌝ }
 {
+    let mut found = false;
     let mut i: usize = 0;
     while i < pool.len() {
-        if pool[i] == pc {
-            return true;
-        }
+        found = found | (pool[i] == pc);
         i += 1;
     }
-    false
+    found
 }
 
 // Whether a note is in the window and in the scale.

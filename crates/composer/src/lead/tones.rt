@@ -1,8 +1,8 @@
 // A chord's tones in the lead's window, and the one nearest to a note.
 ghost use mathlib.Core.Path.{_≡_};
-ghost use Prim.Native.Nat.{_+_, _≤_, _<_};
+ghost use Prim.Native.Nat.{_+_, _≤_, _<_, min};
 ghost use lib.ListN.{length};
-ghost use Rattle.composer.specs.Lead.Tones.{aboveOf, inChordOf, scaleNotesOf, chordTonesOf, withoutOf, strongOf, distanceOf, rankOf, closerOf, nearestOf, nearOf};
+ghost use Rattle.composer.specs.Lead.Tones.{lowestOf, isToneOf, scaleNotesOf, chordTonesOf, withoutOf, strongOf, distanceOf, rankOf, nearestOf, nearOf};
 use crate::chord::OCTAVE;
 use crate::lead::scale::has;
 
@@ -12,25 +12,38 @@ pub struct Tones {
     pub n: usize,
 }
 
-// Whether n is c, or whole octaves above it.
-fn above(c: u8, n: u8) -> bool
-    ensures { λ r. ⌜ r ≡ aboveOf c n ⌝ }
+// Above every note.
+const NO_TONE: u16 = 256;
+
+// The lesser of two.
+fn least(a: u16, b: u16) -> u16
+    ensures { λ r. ⌜ r ≡ min a b ⌝ }
 {
-    if c <= n { (n - c) % OCTAVE == 0 } else { false }
+    if a < b { a } else { b }
 }
 
-// Whether n is a note of the chord, or whole octaves above one.
-fn in_chord(chord: &[u8], n: u8) -> bool
-    ensures { λ r. ⌜ r ≡ inChordOf (now (chord .entry)) n ⌝ }
+// Of each class the lowest of the chord's notes, or more than any note.
+fn lowest_of(chord: &[u8]) -> [u16; 12]
+    ensures { λ r. ⌜ r ≡ lowestOf (now (chord .entry)) ⌝ }
 {
+    let mut lowest = [NO_TONE; 12];
     let mut i: usize = 0;
     while i < chord.len() {
-        if above(chord[i], n) {
-            return true;
-        }
+        let c = chord[i];
+        let class = (c % OCTAVE) as usize;
+        lowest[class] = least(lowest[class], c as u16);
         i += 1;
     }
-    false
+    lowest
+}
+
+// Whether x is a chord's note, or whole octaves above one: not below the lowest of its class. It is a byte, so below 256.
+fn is_tone(lowest: [u16; 12], x: u8) -> bool
+    ensures { λ r. ⌜ r ≡ isToneOf lowest x ⌝ }
+    ensures { λ r. ⌜ x < 256 ⌝ }
+{
+    let class = (x % OCTAVE) as usize;
+    lowest[class] <= x as u16
 }
 
 // The scale's notes from lo to hi.
@@ -42,12 +55,17 @@ pub(crate) fn scale_notes(pool: &[u8], lo: u8, hi: u8) -> Tones
     let mut n: usize = 0;
     let mut x = lo;
     while x <= hi {
-        if has(pool, x % OCTAVE) {
-            at[n] = x;
-            n += 1;
-        }
+        // Each is written, and the next over it unless it is kept.
+        let keep = has(pool, x % OCTAVE);
+        at[n] = x;
+        n += keep as usize;
         x += 1;
     }
+    // What was written last may not have been kept.
+    if n == 20 {
+        return Tones { at: at, n: n };
+    }
+    at[n] = 0;
     Tones { at: at, n: n }
 }
 
@@ -56,17 +74,21 @@ pub(crate) fn chord_tones(notes: Tones, chord: &[u8]) -> Tones
     requires { ⌜ notes .n ≤ 20 ⌝ }
     ensures { λ r. ⌜ r ≡ chordTonesOf notes (now (chord .entry)) ⌝ }
 {
+    let lowest = lowest_of(chord);
     let all = notes.at;
     let count = notes.n;
     let mut at = [0u8; 20];
     let mut n: usize = 0;
     for i in 0..count {
         let x = all[i];
-        if in_chord(chord, x) {
-            at[n] = x;
-            n += 1;
-        }
+        let keep = is_tone(lowest, x);
+        at[n] = x;
+        n += keep as usize;
     }
+    if n == 20 {
+        return Tones { at: at, n: n };
+    }
+    at[n] = 0;
     Tones { at: at, n: n }
 }
 
@@ -81,11 +103,14 @@ pub(crate) fn without(tones: Tones, pc: u8) -> Tones
     let mut n: usize = 0;
     for i in 0..count {
         let x = all[i];
-        if x % OCTAVE != pc {
-            at[n] = x;
-            n += 1;
-        }
+        let keep = x % OCTAVE != pc;
+        at[n] = x;
+        n += keep as usize;
     }
+    if n == 20 {
+        return Tones { at: at, n: n };
+    }
+    at[n] = 0;
     Tones { at: at, n: n }
 }
 
@@ -103,22 +128,11 @@ pub(crate) fn distance(a: u8, b: u8) -> u8
     if a < b { b - a } else { a - b }
 }
 
-// By distance first, then by height.
+// By distance first, then by height: the note is the lower byte.
 fn rank(target: u8, x: u8) -> u16
     ensures { λ r. ⌜ r ≡ rankOf target x ⌝ }
 {
     distance(x, target) as u16 * 256 + x as u16
-}
-
-// x, or the best so far, by rank.
-fn closer(target: u8, best: u8, x: u8) -> u8
-    ensures { λ r. ⌜ r ≡ closerOf target best x ⌝ }
-{
-    if rank(target, x) < rank(target, best) {
-        x
-    } else {
-        best
-    }
 }
 
 // The nearest note to the target; ties low.
@@ -126,13 +140,13 @@ fn nearest(notes: &[u8], target: u8) -> u8
     requires { ⌜ 0 < length (now notes) ⌝ }
     ensures { λ r. ⌜ r ≡ nearestOf (now (notes .entry)) target ⌝ }
 {
-    let mut best = notes[0];
+    let mut best = rank(target, notes[0]);
     let mut i: usize = 1;
     while i < notes.len() {
-        best = closer(target, best, notes[i]);
+        best = least(best, rank(target, notes[i]));
         i += 1;
     }
-    best
+    (best % 256) as u8
 }
 
 // The nearest of the tones.

@@ -56,12 +56,12 @@ loop2-holds c =
     let s = a .args .s in
     let bar = a .args .bar in
     let first : l .from ≡ count (earlier bar) (eventsOf s Lane.Keys) =
-        ⊎-elim
-        (λ w.
-          let h : l .from < s .«keys_count» = omega (arith, w .0 .taken) in
-          before-first s (a .pre .0) Lane.Keys bar (l .from) h (l .inv .1) (ap (λ (b : ℕ). ltb b bar) (keys-bar s (a .pre .0) (l .from) h) ∙ w .1 .left))
-        (λ w. before-last s (a .pre .0) Lane.Keys bar (l .from) (omega (arith, w .left)) (l .inv .1))
-        (c .loop-test .came) in
+    ⊎-elim
+    (λ w.
+    let h : l .from < s .«keys_count» = omega (arith, w .0 .taken) in
+    before-first s (a .pre .0) Lane.Keys bar (l .from) h (l .inv .1) (ap (λ (b : ℕ). ltb b bar) (keys-bar s (a .pre .0) (l .from) h) ∙ w .1 .left))
+    (λ w. before-last s (a .pre .0) Lane.Keys bar (l .from) (omega (arith, w .left)) (l .inv .1))
+    (c .loop-test .came) in
     (l .inv .0, first, before-next s (a .pre .0) Lane.Keys bar (l .from) (l .inv .0) (l .inv .1))
 
 mul-if2 : tie.Need-mul-if2 Inv-loop μ-loop Inv-loop2 μ-loop2

@@ -1,12 +1,11 @@
 -- After i turns the first i later steps are drawn, and at most i + 1 sound. Assumes nothing.
 use mathlib.Core.Path.{_≡_, refl, sym}
-use mathlib.Core.Bool.{Bool, true, false}
 use Prim.Native.Nat.{_+_, _-_, _≤_}
 use native.Mathlib.Omega.{arith}
-use Rattle.composer.specs.Bass.Rhythm.{stepsTo, rootAlone, bassRhythmOf}
+use Rattle.composer.specs.Bass.Rhythm.{stepsTo, bassRhythmOf}
 use Rattle.composer.specs.declared.bass.rhythm.Steps.{Steps}
 use Rattle.composer.proofs.bass.RhythmLaws.{turn-on}
-use mir.Val.{boolByte}
+use Rattle.laws.proofs.Bools.{bit-few}
 use borrow.Author.Needs.{needs}
 use Rattle.composer.proofs.bass.rhythm.bass_rhythm.Statement.{statement}
 use Rattle.composer.proofs.bass.rhythm.bass_rhythm.Tie as tie
@@ -49,12 +48,8 @@ array-write-at c = search needs
 cast-n : tie.Need-cast-n Inv-loop μ-loop
 cast-n c = search needs
 
-byte : (b : Bool) → boolByte b ≤ 1
-byte true = omega arith
-byte false = omega arith
-
 add-n : tie.Need-add-n Inv-loop μ-loop
-add-n c = omega (arith, byte (c .before .before .chance .result .value))
+add-n c = omega (arith, bit-few (c .before .before .chance .result .value))
 
 add-i : tie.Need-add-i Inv-loop μ-loop
 add-i c = search needs
@@ -67,10 +62,9 @@ loop-again c =
     let d = c .before .before .before in
     let l = d .before .before .loop in
     let root = d .before .before .before .before .root-step .result in
-    let t : Steps = record { at = l .at; n = l .n } in
-    (
+    let t : Steps = record { at = l .at; n = l .n } in (
       omega arith,
-      omega (arith, byte (d .chance .result .value)),
+      omega (arith, bit-few (d .chance .result .value)),
       rw (c .before .before .sounding .ensures) (turn-on root (l .i) t (l .stream) (d .chance .result) (l .inv .2) (d .chance .ensures)),
     )
 

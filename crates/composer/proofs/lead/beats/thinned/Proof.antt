@@ -5,14 +5,16 @@ use native.Mathlib.Omega.{arith}
 use lib.ListN.{take}
 use lib.Ieee.{nan}
 use Rattle.laws.specs.Lists.{pad}
+use Rattle.composer.specs.Note.{zero32}
 use Rattle.composer.specs.Lead.Beats.{thinOf}
-use Rattle.composer.proofs.lead.BeatsLaws.{Written, written-full, written-rest, thin-first, thin-on}
+use Rattle.composer.proofs.lead.BeatsLaws.{written-full, written-rest, thin-first, thin-on}
+use Rattle.laws.proofs.Written.{Written}
 use borrow.Author.Needs.{needs}
 use Rattle.composer.proofs.lead.beats.thinned.Statement.{statement}
 use Rattle.composer.proofs.lead.beats.thinned.Tie as tie
 
 abbrev Inv-loop : tie.InvT-loop
-Inv-loop a n at₀ m₀ i₀ at m i = (1 ≤ i) × (i ≤ n) × (1 ≤ m) × (m ≤ i) × Written (thinOf nan (take i a)) at m
+Inv-loop a n at₀ m₀ i₀ at m i = (1 ≤ i) × (i ≤ n) × (1 ≤ m) × (m ≤ i) × Written zero32 7 (thinOf nan (take i a)) at m
 
 abbrev μ-loop : tie.MeasureT-loop
 μ-loop a n at₀ m₀ i₀ at m i = n - i

@@ -1,26 +1,27 @@
 -- The array holds the notes below x, at most one for each semitone passed. Assumes nothing.
-use mathlib.Core.Path.{_≡_, sym, _∙_}
-use mathlib.Core.Logic.{⊎-elim}
+use mathlib.Core.Path.{_≡_, _∙_}
 use Prim.Native.Nat.{_+_, _-_, _≤_, _<_}
 use native.Mathlib.Omega.{arith}
-use Rattle.laws.specs.Lists.{pad}
 use Rattle.composer.specs.Lead.Tones.{hasClass, kept, scaleNotesIn}
-use Rattle.composer.proofs.lead.TonesLaws.{Holds, holds-one, holds-none}
+use Rattle.composer.proofs.lead.TonesLaws.{cleared-full, holds-on, tones-written}
+use Rattle.laws.proofs.Bools.{bit-few}
+use Rattle.laws.proofs.Written.{Written, written-none}
+use borrow.Author.Needs.{needs}
 use Rattle.composer.proofs.lead.tones.scale_notes.Statement.{statement}
 use Rattle.composer.proofs.lead.tones.scale_notes.Tie as tie
 
 abbrev Inv-loop : tie.InvT-loop
 Inv-loop pool lo hi at₀ n₀ x₀ at n x =
-    (lo ≤ x) × (x ≤ hi + 1) × (hi < lo + 20) × (hi < 250) × Holds (hasClass pool) lo x at n
+    (lo ≤ x) × (x ≤ hi + 1) × (hi < lo + 20) × (hi < 250) × (n ≤ x - lo) × Written 0 20 (kept (hasClass pool) lo (x - lo)) at n
 
 abbrev μ-loop : tie.MeasureT-loop
 μ-loop pool lo hi at₀ n₀ x₀ at n x = hi + 1 - x
 
 loop-holds : tie.Need-loop-holds Inv-loop μ-loop
-unfolding kept pad
+unfolding kept
 loop-holds c =
     let e : c .before .args .lo - c .before .args .lo ≡ 0 = omega arith in
-    (omega arith, omega arith, omega arith, omega arith, record { list = rw e; count = rw e; few = omega arith })
+    (omega arith, omega arith, omega arith, omega arith, omega arith, rw e (written-none 0 20))
 
 has-requires : tie.Need-has-requires Inv-loop μ-loop
 has-requires c κs = omega arith
@@ -28,8 +29,11 @@ has-requires c κs = omega arith
 array-write-at : tie.Need-array-write-at Inv-loop μ-loop
 array-write-at c = omega arith
 
+cast-n : tie.Need-cast-n Inv-loop μ-loop
+cast-n c = search needs
+
 add-n : tie.Need-add-n Inv-loop μ-loop
-add-n c = omega arith
+add-n c = omega (arith, bit-few (c .has .result))
 
 add-x : tie.Need-add-x Inv-loop μ-loop
 add-x c = omega arith
@@ -39,22 +43,29 @@ loop-less c = omega arith
 
 loop-again : tie.Need-loop-again Inv-loop μ-loop
 loop-again c =
-    let a = c .before .before .before .before .before .args in
-    let l = c .before .before .before .loop in
-    let p = hasClass (a .pool .now) in
-    let e = c .before .has .ensures in
-    ⊎-elim
-    (λ w. (omega arith, omega arith, omega arith, omega arith, rw (w .1, w .2) (holds-one p (a .lo) (l .x) (omega arith) (l .inv .4) (omega arith) (sym e ∙ w .0 .taken))))
-    (λ w. (omega arith, omega arith, omega arith, omega arith, rw (w .1, w .2) (holds-none p (a .lo) (l .x) (omega arith) (l .inv .4) (sym e ∙ w .0 .left))))
-    (c .if1 .came)
+    let a = c .before .before .before .before .args in
+    let l = c .before .before .loop in
+    let b = c .has .result in
+    (omega arith, omega arith, omega arith, omega arith, omega (arith, bit-few b), holds-on (hasClass (a .pool .now)) (a .lo) (l .x) (l .at) (l .n) b (omega arith) (omega arith) (c .has .ensures) (l .inv .5))
 
 returns : tie.Need-returns Inv-loop μ-loop
 unfolding scaleNotesIn
 returns c =
-    let l = c .before .loop in
-    let e : l .x ≡ c .before .before .before .args .hi + 1 = omega arith in
-    let h = l .inv .4 in
-    rw (← e) (rw (h .list, h .count))
+    let a = c .before .before .before .before .args in
+    let l = c .before .before .loop in
+    let e : l .x ≡ a .hi + 1 = omega arith in
+    cleared-full (l .inv .5) (c .if1 .taken) ∙ rw (← e) (tones-written (kept (hasClass (a .pool .now)) (a .lo) (l .x - a .lo)) (l .at) (l .n) (l .inv .5))
+
+array-write-at-2 : tie.Need-array-write-at-2 Inv-loop μ-loop
+array-write-at-2 c = omega arith
+
+returns-2 : tie.Need-returns-2 Inv-loop μ-loop
+unfolding scaleNotesIn
+returns-2 c =
+    let a = c .before .before .before .before .args in
+    let l = c .before .before .loop in
+    let e : l .x ≡ a .hi + 1 = omega arith in
+    rw (← e) (tones-written (kept (hasClass (a .pool .now)) (a .lo) (l .x - a .lo)) (l .at) (l .n) (l .inv .5))
 
 pub scale-notes-spec : {M : Type 1} → statement M
 scale-notes-spec =
@@ -65,8 +76,11 @@ scale-notes-spec =
     loop-holds
     has-requires
     array-write-at
+    cast-n
     add-n
     add-x
     loop-less
     loop-again
-    returns)
+    returns
+    array-write-at-2
+    returns-2)
