@@ -4,7 +4,7 @@ use mathlib.Core.List.{List, map, _++_}
 use Prim.Native.Nat.{ℕ}
 use lib.Ieee.{ofBits, toBits}
 use Rattle.laws.specs.Floats.{roundOf}
-use Rattle.laws.specs.Lists.{pad}
+use Rattle.laws.specs.Lists.{listTo, pad}
 use Rattle.laws.specs.Sorts.{insert, sort}
 use Rattle.streams.proofs.Cases.{draws-checked}
 use Rattle.composer.specs.Form.Body.{cutHeard, bodyBarOf}
@@ -15,5 +15,5 @@ use Rattle.composer.specs.Lead.Tones.{nearestOf}
 use Rattle.composer.specs.Cases.{composerCases, checkedCases}
 
 pub checked : map (λ c. c .given) checkedCases ≡ map (λ c. c .wanted) checkedCases
-unfolding settled sort insert thinOf nearOf snappedOf snapFrom fitsOf hasOf nearestOf roundOf fallbackOf pad bodyBarOf cutHeard ofBits toBits
+unfolding settled sort insert thinOf nearOf snappedOf snapFrom fitsOf hasOf listTo nearestOf roundOf fallbackOf pad bodyBarOf cutHeard ofBits toBits
 checked = ap (λ (rows : List (List ℕ)). rows ++ map (λ c. c .wanted) composerCases) draws-checked

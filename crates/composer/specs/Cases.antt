@@ -11,7 +11,7 @@ use Rattle.composer.specs.Form.Body.{noCut, bodyBarOf}
 use Rattle.composer.specs.Harmony.{pentatonic}
 use Rattle.composer.specs.Lead.Beats.{beatsOf, listOf, settled}
 use Rattle.composer.specs.Lead.Rhythm.{fallbackOf}
-use Rattle.composer.specs.Lead.Scale.{snappedOf}
+use Rattle.composer.specs.Lead.Scale.{poolBy, snappedOf}
 use Rattle.composer.specs.Lead.Tones.{nearestOf}
 use Rattle.composer.specs.declared.form.decisions.Opening.{Opening}
 use Rattle.composer.specs.declared.form.decisions.Closing.{Closing}
@@ -69,8 +69,8 @@ silentBass d (suc n) = silentBass d n ++ cond (bodyBarOf d n .bass) [] (n ∷ []
 abbrev pub composerCases : List Case
 composerCases =
     case 4 (spelled (settled (half ∷ threeQuarters ∷ one ∷ []))) (0x3f00_0000 ∷ 0x3f80_0000 ∷ [])
-    ∷ case 5 (snappedOf pentatonic 60 79 65 ∷ []) (64 ∷ [])
-    ∷ case 6 (snappedOf pentatonic 60 79 66 ∷ []) (67 ∷ [])
+    ∷ case 5 (snappedOf (poolBy pentatonic) 60 79 65 ∷ []) (64 ∷ [])
+    ∷ case 6 (snappedOf (poolBy pentatonic) 60 79 66 ∷ []) (67 ∷ [])
     ∷ case 7 (nearestOf (60 ∷ 64 ∷ []) 62 ∷ []) (60 ∷ [])
     ∷ case 8 (voicedOf (degreeAt 0) 11 .notes) (59 ∷ 63 ∷ 66 ∷ 70 ∷ [])
     ∷ case 9 (bassPitchOf 7 ∷ bassPitchOf 6 ∷ []) (31 ∷ 42 ∷ [])

@@ -9,7 +9,7 @@ use Rattle.composer.specs.Bass.Promise.{SoundsIn}
 use Rattle.composer.specs.Chord.{pastChord, RootPosition}
 use Rattle.composer.specs.Drums.{drumDrawsOf}
 use Rattle.composer.specs.Keys.{keyDrawsOf}
-use Rattle.composer.specs.Lead.Scale.{hasOf, poolOf}
+use Rattle.composer.specs.Lead.Scale.{pcsOf, hasOf}
 use Rattle.composer.specs.Note.{noNote, pastNote, noteBar, noHit, pastHit, hitBar}
 use Rattle.composer.specs.Plain.{PlainPromise}
 use Rattle.composer.specs.Style.{leadStyleOf}
@@ -25,7 +25,7 @@ use Rattle.composer.specs.declared.style.Style.{Style}
 pub record Sings (style : Style) (scale : Scale) (midi : ℕ) : Type 0 where
   pub least : leadStyleOf style .lo ≤ midi
   pub most : midi ≤ leadStyleOf style .hi
-  pub class : hasOf (poolOf scale) (midi % 12) ≡ true
+  pub class : hasOf (pcsOf scale) (midi % 12) ≡ true
 
 -- the four lanes
 pub record LanesPromise (s : Score) : Type 0 where

@@ -6,6 +6,7 @@ use crate::harmony::Harmony;
 use crate::lead::melody::melody;
 use crate::lead::played::played;
 use crate::lead::rhythm::rhythm_of;
+use crate::lead::scale::pool_of;
 use crate::note::Note;
 use crate::style::Style;
 use crate::style::lead_style;
@@ -43,8 +44,7 @@ pub(crate) fn lead(s: NoiseStream, h: Harmony, style: Style, beat_s: f32) -> Lea
     let next = r.stream;
     let bars = h.bars;
     let scale = h.scale;
-    let pcs = scale.pcs;
-    let n = scale.n;
-    let m = melody(next, beats, bars, &pcs[..n], l);
+    let pool = pool_of(scale);
+    let m = melody(next, beats, bars, &pool, l);
     played(m, beat_s, l.dur)
 }

@@ -1,6 +1,6 @@
 -- How many entries of a list pass a test. Assumes nothing.
 use mathlib.Core.Path.{_≡_, refl, ap, _∙_}
-use mathlib.Core.Bool.{Bool, true, false, cond}
+use mathlib.Core.Bool.{Bool, true, false, cond, _&&_}
 use mathlib.Core.List.{List, [], _∷_, _++_, map}
 use Prim.Native.Nat.{ℕ, zero, suc, _+_, _-_, _≤_, _<_}
 use native.Mathlib.Nat.{not-suc-le-zero, le-of-suc-le-suc}
@@ -57,6 +57,16 @@ module _ {A : Type 0} (p : A → Bool) where
       go : (b : Bool) → cond b (x ∷ (filterOf p xs ++ filterOf p ys)) (filterOf p xs ++ filterOf p ys) ≡ cond b (x ∷ filterOf p xs) (filterOf p xs) ++ filterOf p ys
       go true = refl
       go false = refl
+
+  -- what passes one test and then another passes both
+  pub filter-both : (q : A → Bool) (xs : List A) → filterOf q (filterOf p xs) ≡ filterOf (λ x. p x && q x) xs
+  unfolding filterOf
+  filter-both q [] = refl
+  filter-both q (x ∷ xs) = go (p x) (filter-both q xs)
+    where
+      go : (b : Bool) {ys : List A} → filterOf q (filterOf p xs) ≡ ys → filterOf q (cond b (x ∷ filterOf p xs) (filterOf p xs)) ≡ cond (b && q x) (x ∷ ys) ys
+      go true e = ap (λ (zs : List A). cond (q x) (x ∷ zs) zs) e
+      go false e = e
 
   pub filter-none : (xs : List A) → All (λ x. p x ≡ false) xs → filterOf p xs ≡ []
   unfolding filterOf

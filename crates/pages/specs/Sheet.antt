@@ -10,7 +10,7 @@ use Rattle.composer.specs.Form.Ends.{endCodeOf, outroCodeOf}
 use Rattle.composer.specs.Form.Plays.{bitsOf}
 use Rattle.composer.specs.Form.Song.{arrangeOf}
 use Rattle.composer.specs.Harmony.{notesOf}
-use Rattle.composer.specs.Lead.Scale.{poolOf}
+use Rattle.composer.specs.Lead.Scale.{pcsOf}
 use Rattle.composer.specs.Style.{styleNumberOf}
 use Rattle.composer.specs.Voice.{voiceNumberOf}
 use Rattle.composer.specs.declared.form.Form.{Form}
@@ -36,7 +36,7 @@ chordsField s = field 0x03 (joined (notesOf (s .«bar_chords»)))
 
 -- melody scale, 5 or 6 pitch classes
 abbrev pub scaleField : Scale → List ℕ
-scaleField scale = field 0x04 (poolOf scale)
+scaleField scale = field 0x04 (pcsOf scale)
 
 unfoldable pub songBytes : ℕ → Score → Scale → List ℕ
 songBytes seed s scale = nameField seed s ++ (tempoField s ++ (chordsField s ++ scaleField scale))

@@ -1,5 +1,6 @@
 -- The melody's notes come bar by bar: their bars never fall, none is past bar 7, and no bar has more than 7. Assumes nothing.
 use mathlib.Core.Path.{_≡_, refl}
+use mathlib.Core.Bool.{Bool}
 use mathlib.Core.List.{List}
 use Prim.Native.Nat.{ℕ, zero, suc, _+_, _*_, _≤_, _<_}
 use native.Mathlib.Omega.{arith}
@@ -23,7 +24,7 @@ use Rattle.composer.proofs.lead.MelodyLaws.{bar-count, good-bars, good-
 abbrev pub leadBar : LeadNote → ℕ
 leadBar x = x .bar
 
-module _ (pool : List ℕ) (g : Ground) (bar : ℕ) (b : Beats) where
+module _ (pool : List Bool) (g : Ground) (bar : ℕ) (b : Beats) where
   sing-grown : (m : Sung) (i : ℕ) → m .count < length (m .notes) → Grown pastLead (λ x. x .bar ≡ bar) (m .notes) (singOf pool g bar b m i .notes) (m .count) (singOf pool g bar b m i .count)
   unfolding singOf
   sing-grown m i room = grown-push pastLead (λ x. x .bar ≡ bar) (m .notes) (m .count) _ room refl
@@ -38,7 +39,7 @@ module _ (pool : List ℕ) (g : Ground) (bar : ℕ) (b : Beats) where
       grown-then pastLead (λ x. x .bar ≡ bar) (m .notes) (n .notes) (singOf pool g bar b n i .notes) (m .count) (n .count) (singOf pool g bar b n i .count) before
       (sing-grown n i (omega (arith, before .size)))
 
-module _ (s : NoiseStream) (beats : List Beats) (bars : List Chord) (pool : List ℕ) (style : LeadStyle) (ready : Ready beats bars pool style) where
+module _ (s : NoiseStream) (beats : List Beats) (bars : List Chord) (pool : List Bool) (style : LeadStyle) (ready : Ready beats bars pool style) where
   abbrev first : ℕ
   first = startOf style (getD bars 0 pastChord) pool
 

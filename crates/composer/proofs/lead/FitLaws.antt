@@ -10,21 +10,21 @@ use lib.ListN.{length}
 use mir.Facts.{and-yes}
 use Rattle.laws.specs.Lists.{allOf}
 use Rattle.laws.proofs.Bools.{holds, cond-by}
-use Rattle.composer.specs.Lead.Scale.{hasOf, fitsOf}
+use Rattle.composer.specs.Lead.Scale.{inPool, fitsOf}
 use Rattle.composer.specs.Lead.Tones.{inChordOf, isSungOf, one, kept, tonesIn, rankOf, closerOf, closest, nearestOf}
 
 -- ---- a note that fits
-fits-in : (pool : List ℕ) (lo hi n : ℕ) → lo ≤ n → n ≤ hi → hasOf pool (n % 12) ≡ true → T (fitsOf pool lo hi n)
+fits-in : (pool : List Bool) (lo hi n : ℕ) → lo ≤ n → n ≤ hi → inPool pool (n % 12) ≡ true → T (fitsOf pool lo hi n)
 unfolding fitsOf
 fits-in pool lo hi n a b m = rw (le-leb lo n a, le-leb n hi b, m) tt
 
 -- it is in the window, and its class in the scale
-pub fits-what : (pool : List ℕ) (lo hi n : ℕ) → T (fitsOf pool lo hi n) → (lo ≤ n) × (n ≤ hi) × (hasOf pool (n % 12) ≡ true)
+pub fits-what : (pool : List Bool) (lo hi n : ℕ) → T (fitsOf pool lo hi n) → (lo ≤ n) × (n ≤ hi) × (inPool pool (n % 12) ≡ true)
 unfolding fitsOf
 fits-what pool lo hi n t =
-    let u = and-yes (leb lo n && leb n hi) (hasOf pool (n % 12)) t in
+    let u = and-yes (leb lo n && leb n hi) (inPool pool (n % 12)) t in
     let w = and-yes (leb lo n) (leb n hi) (u .0) in
-    (leb→le lo n (w .0), leb→le n hi (w .1), holds (hasOf pool (n % 12)) (u .1))
+    (leb→le lo n (w .0), leb→le n hi (w .1), holds (inPool pool (n % 12)) (u .1))
 
 -- ---- what passes at every entry
 both : (a b : Bool) → T a → T b → T (a && b)
@@ -51,12 +51,12 @@ all-kept p q lo (suc k) h =
     (all-one q (p (lo + k)) (lo + k) (h k (omega arith)))
 
 -- ---- the chord's tones
-sung-has : (chord pool : List ℕ) (avoid n : ℕ) → T (isSungOf chord pool avoid n) → hasOf pool (n % 12) ≡ true
+sung-has : (chord : List ℕ) (pool : List Bool) (avoid n : ℕ) → T (isSungOf chord pool avoid n) → inPool pool (n % 12) ≡ true
 unfolding isSungOf
 sung-has chord pool avoid n t =
-    holds (hasOf pool (n % 12)) (and-yes (inChordOf chord n && not (eqb (n % 12) avoid)) (hasOf pool (n % 12)) t .1)
+    holds (inPool pool (n % 12)) (and-yes (inChordOf chord n && not (eqb (n % 12) avoid)) (inPool pool (n % 12)) t .1)
 
-pub tones-fit : (chord pool : List ℕ) (avoid lo hi : ℕ) → T (allOf (fitsOf pool lo hi) (tonesIn chord pool avoid lo hi))
+pub tones-fit : (chord : List ℕ) (pool : List Bool) (avoid lo hi : ℕ) → T (allOf (fitsOf pool lo hi) (tonesIn chord pool avoid lo hi))
 unfolding tonesIn
 tones-fit chord pool avoid lo hi =
     all-kept (isSungOf chord pool avoid) (fitsOf pool lo hi) lo (hi + 1 - lo)

@@ -1,5 +1,5 @@
 -- The lead over every tonal harmony: at most 56 notes, each in the style's window and in the scale, bar by bar and at most 7 in each. Assumes nothing.
-use mathlib.Core.Path.{_≡_, ap}
+use mathlib.Core.Path.{_≡_, sym, ap, _∙_}
 use mathlib.Core.Bool.{true}
 use Prim.Native.Nat.{ℕ, suc, _%_, _≤_, _<_}
 use native.Mathlib.Omega.{arith}
@@ -15,7 +15,7 @@ use Rattle.composer.specs.Note.{noNote, pastNote, noteBar}
 use Rattle.composer.specs.Style.{leadStyleOf}
 use Rattle.composer.specs.Lead.{sungOf, leadOf}
 use Rattle.composer.specs.Lead.Rhythm.{rhythmOf}
-use Rattle.composer.specs.Lead.Scale.{poolOf, hasOf}
+use Rattle.composer.specs.Lead.Scale.{pcsOf, hasOf, poolOf}
 use Rattle.composer.specs.Lead.Melody.{noLead, pastLead}
 use Rattle.composer.specs.Lead.Sound.{Good, Ready}
 use Rattle.composer.specs.declared.harmony.Harmony.{Harmony}
@@ -28,6 +28,7 @@ use Rattle.composer.proofs.lead.GroundLaws.{ready}
 use Rattle.composer.proofs.lead.MelodyLaws.{melody-good}
 use Rattle.composer.proofs.lead.PlayedLaws.{played-count, played-size, played-keeps, played-rest}
 use Rattle.composer.proofs.lead.RhythmLaws.{rhythm-few}
+use Rattle.composer.proofs.lead.ScaleLaws.{pool-at}
 
 module _ (s : NoiseStream) (h : Harmony) (tonal : Tonal h) (style : Style) where
   abbrev l : LeadStyle
@@ -64,10 +65,11 @@ module _ (s : NoiseStream) (h : Harmony) (tonal : Tonal h) (style : Style) where
     -- each note is in the style's window, and its class in the scale
     pub lead-fits : (i : ℕ) → i < leadOf s h style beatS .count
         → (l .lo ≤ getD (leadOf s h style beatS .notes) i pastNote .midi) × (getD (leadOf s h style beatS .notes) i pastNote .midi ≤ l .hi)
-        × (hasOf (poolOf (h .scale)) (getD (leadOf s h style beatS .notes) i pastNote .midi % 12) ≡ true)
+        × (hasOf (pcsOf (h .scale)) (getD (leadOf s h style beatS .notes) i pastNote .midi % 12) ≡ true)
     lead-fits i a =
-        rw (keeps i a .1)
-        (fits-what (poolOf (h .scale)) (l .lo) (l .hi) (getD (m .notes) i pastLead .note) (sung-good .0 .notes i (omega (arith, same-count))))
+        let note = getD (m .notes) i pastLead .note in
+        let f = fits-what (poolOf (h .scale)) (l .lo) (l .hi) note (sung-good .0 .notes i (omega (arith, same-count))) in
+        rw (keeps i a .1) (f .0, f .1, sym (pool-at (pcsOf (h .scale)) (note % 12) (omega arith)) ∙ f .2)
 
     -- at most 56 notes, bar after bar, and zero behind them
     pub lead-laid : Laid pastNote noNote noteBar 56 7 (leadOf s h style beatS .notes) (leadOf s h style beatS .count)

@@ -1,7 +1,7 @@
 -- Every note of the melody is in the window and the scale, and each bar finds its notes and its room. Assumes nothing.
 use mathlib.Core.Path.{_≡_, refl, ap, _∙_}
 use mathlib.Core.Logic.{⊎-elim}
-use mathlib.Core.Bool.{cond}
+use mathlib.Core.Bool.{Bool, cond}
 use mathlib.Core.List.{List}
 use Prim.Native.Nat.{ℕ, zero, suc, _+_, _*_, _≤_, _<_}
 use native.Mathlib.Nat.{eq-or-lt-of-le}
@@ -32,7 +32,7 @@ use Rattle.composer.proofs.lead.FitLaws.{fits-what}
 use Rattle.composer.proofs.lead.PitchLaws.{step-note-fits, line-fits}
 
 -- ---- one note more
-module _ (pool : List ℕ) (lo hi : ℕ) where
+module _ (pool : List Bool) (lo hi : ℕ) where
   notes-on : (l : List LeadNote) (n : ℕ) (x : LeadNote) → n < length l → ((j : ℕ) → j < n → T (fitsOf pool lo hi (getD l j pastLead .note))) → T (fitsOf pool lo hi (x .note))
       → (j : ℕ) → j < n + 1 → T (fitsOf pool lo hi (getD (set l n x) j pastLead .note))
   notes-on l n x k ns t j h =
@@ -56,7 +56,7 @@ module _ (pool : List ℕ) (lo hi : ℕ) where
       }
 
 -- ---- a bar
-module _ (pool : List ℕ) (g : Ground) (bar : ℕ) (b : Beats) where
+module _ (pool : List Bool) (g : Ground) (bar : ℕ) (b : Beats) where
   pub bar-count : (m : Sung) (i : ℕ) → barTo pool g bar b m i .count ≡ m .count + i
   unfolding barTo singOf
   bar-count m zero = omega arith
@@ -86,7 +86,7 @@ module _ (pool : List ℕ) (g : Ground) (bar : ℕ) (b : Beats) where
     good-bar m (suc i) h room = good-sing (barTo pool g bar b m i) i (good-bar m i h (omega arith)) (omega (arith, bar-count m i))
 
 -- ---- the start
-good-open : (pool : List ℕ) (lo hi first : ℕ) (s : NoiseStream) → T (fitsOf pool lo hi first) → Good pool lo hi (openLineOf first s)
+good-open : (pool : List Bool) (lo hi first : ℕ) (s : NoiseStream) → T (fitsOf pool lo hi first) → Good pool lo hi (openLineOf first s)
 unfolding openLineOf
 good-open pool lo hi first s t =
     let w = fits-what pool lo hi first t in
@@ -97,7 +97,7 @@ good-open pool lo hi first s t =
     }
 
 -- ---- the eight bars
-module _ (beats : List Beats) (bars : List Chord) (pool : List ℕ) (style : LeadStyle) (ready : Ready beats bars pool style) where
+module _ (beats : List Beats) (bars : List Chord) (pool : List Bool) (style : LeadStyle) (ready : Ready beats bars pool style) where
   abbrev first : ℕ
   first = startOf style (getD bars 0 pastChord) pool
 

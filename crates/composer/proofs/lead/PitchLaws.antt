@@ -67,7 +67,7 @@ role-quotes l p =
     by-cases false false false false false h = by-chance (chanceOf (l .stream) (ofBits binary32 0x3f0c_cccd) .value) (chanceOf (l .stream) (ofBits binary32 0x3f0c_cccd) .stream)
 
 -- ---- the pitch
-module _ (pool : List ℕ) (g : Ground) (sound : Sound pool g) where
+module _ (pool : List Bool) (g : Ground) (sound : Sound pool g) where
   near-fits : (t : Tones) → Tuned pool (g .lo) (g .hi) t → (x : ℕ) → T (fitsOf pool (g .lo) (g .hi) (nearOf t x))
   near-fits t h x = nearest-in (fitsOf pool (g .lo) (g .hi)) (listed t) x (h .some) (h .fit)
 
@@ -103,7 +103,7 @@ module _ (pool : List ℕ) (g : Ground) (sound : Sound pool g) where
 pub opens-room : (bar heads : ℕ) → opensLineOf bar heads ≡ true → heads < 2
 opens-room bar heads h = ltb-true heads 2 (and-right (eqb bar 0) (ltb heads 2) h)
 
-module _ (pool : List ℕ) (lo hi : ℕ) (l : Line) (opening note : ℕ) (f : Fit pool lo hi l opening) (fits : T (fitsOf pool lo hi note)) where
+module _ (pool : List Bool) (lo hi : ℕ) (l : Line) (opening note : ℕ) (f : Fit pool lo hi l opening) (fits : T (fitsOf pool lo hi note)) where
   head-on : (o : Bool) → (o ≡ true → l .heads < 2) → (i : ℕ) → i < cond o (l .heads + 1) (l .heads) → T (fitsOf pool lo hi (getD (cond o (set (l .head) (l .heads) note) (l .head)) i 0))
   head-on false h i k = f .head i k
   head-on true h i k =

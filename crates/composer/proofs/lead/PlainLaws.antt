@@ -1,5 +1,6 @@
 -- Every lead note is plain: sung on a quarter beat of the loop, then played behind it with an accent. Assumes nothing.
 use mathlib.Core.Path.{_≡_, sym, ap, _∙_, subst}
+use mathlib.Core.Bool.{Bool}
 use mathlib.Core.List.{List}
 use Prim.Native.Nat.{ℕ, zero, suc, _≤_, _<_}
 use native.Mathlib.Omega.{arith}
@@ -97,7 +98,7 @@ velocity-in Resolve x i = same-in x i
 velocity-in ChordTone x i = same-in x i
 velocity-in Passing x i = same-in x i
 
-module _ (pool : List ℕ) (g : Ground) (isFair : T (stays (g .velocity) least most)) (bar : ℕ) (inLoop : bar ≤ 7) (b : Beats)
+module _ (pool : List Bool) (g : Ground) (isFair : T (stays (g .velocity) least most)) (bar : ℕ) (inLoop : bar ≤ 7) (b : Beats)
     (beats : (i : ℕ) → i < b .n → In zero32 lastBeat (getD (b .at) i nan)) where
   bar-full : (m : Sung) (i : ℕ) → i ≤ b .n → Full m → Full (barTo pool g bar b m i)
   unfolding barTo singOf stepOf
@@ -109,7 +110,7 @@ module _ (pool : List ℕ) (g : Ground) (isFair : T (stays (g .velocity) least m
 
 module _ (style : LeadStyle) (isFair : T (stays (style .velocity) least most)) (beats : List Beats)
     (fits : (k : ℕ) → k < 8 → (i : ℕ) → i < getD beats k pastBeats .n → In zero32 lastBeat (getD (getD beats k pastBeats .at) i nan)) where
-  bars-full : (bars : List Chord) (pool : List ℕ) (m : Sung) (k : ℕ) → k ≤ 8 → Full m → Full (barsTo beats bars pool style m k)
+  bars-full : (bars : List Chord) (pool : List Bool) (m : Sung) (k : ℕ) → k ≤ 8 → Full m → Full (barsTo beats bars pool style m k)
   unfolding barsTo groundOf
   bars-full bars pool m zero h f = f
   bars-full bars pool m (suc k) h f =

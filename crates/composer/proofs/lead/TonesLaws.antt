@@ -11,13 +11,13 @@ use lib.Dec.{leb, ltb, eqb}
 use lib.ListN.{length, getD, take, drop, set, replicate, drop-of-length-le, length-append, length-take, length-set, getD-replicate}
 use lib.Seq.{drop-cons, take-suc, take-at, getD-set-same, getD-set-other, set-out}
 use Rattle.laws.specs.Lists.{pad, filterOf}
-use Rattle.composer.specs.Lead.Scale.{hasOf}
-use Rattle.composer.specs.Lead.Tones.{aboveOf, inChordOf, lowered, lowestFrom, lowestOf, isToneOf, isSungOf, noClass, kept, one, tonesIn, packed, listed, tonesInOf, hasClass, scaleNotesIn, scaleNotesOf, chordTonesOf, isOther, rankOf, closerOf, closest, nearestOf}
+use Rattle.composer.specs.Lead.Scale.{inPool}
+use Rattle.composer.specs.Lead.Tones.{aboveOf, inChordOf, lowered, lowestFrom, lowestOf, isToneOf, isSungOf, noClass, kept, one, tonesIn, packed, clearedOf, listed, tonesInOf, hasClass, scaleNotesIn, scaleNotesOf, isOther, rankOf, closerOf, closest, nearestOf}
 use Rattle.composer.specs.Lead.Ground.{groundOf, groundFrom}
 use Rattle.composer.specs.declared.chord.Chord.{Chord}
 use Rattle.composer.specs.declared.style.LeadStyle.{LeadStyle}
 use Rattle.composer.specs.declared.lead.tones.Tones.{Tones}
-use Rattle.laws.proofs.Counts.{count-filter, count-most, filter-append}
+use Rattle.laws.proofs.Counts.{filter-append, filter-both}
 use Rattle.laws.proofs.Written.{Written, written-none, written-over, written-more}
 
 -- ---- a chord's notes: a table of the lowest of each class tells whether a note is one of them
@@ -135,17 +135,7 @@ pub holds-on : (passes : ℕ → Bool) (lo x : ℕ) (at : List ℕ) (n : ℕ) (b
     → Written 0 20 (kept passes lo (x + 1 - lo)) (set at n x) (n + boolByte b)
 holds-on passes lo x at n b low room e w = rw (e, grown passes lo x low) (written-one (passes x) (kept passes lo (x - lo)) at n x room w)
 
--- the first n, with 0 behind them
-abbrev pub cleared : List ℕ → ℕ → Tones
-cleared at n = record { at = set at n 0; n = n }
-
--- behind a full array nothing is written
-pub cleared-full : {xs at : List ℕ} {n : ℕ} → Written 0 20 xs at n → n ≡ 20 → _≡_ {A = Tones} (record { at = at; n = n }) (cleared at n)
-cleared-full {xs} {at} {n} w e =
-    let l = w .size in
-    ap (λ (ys : List ℕ). record { at = ys; n = n }) (sym (set-out at n 0 (omega arith)))
-
-pub tones-written : (xs at : List ℕ) (n : ℕ) → Written 0 20 xs at n → cleared at n ≡ packed xs
+pub tones-written : (xs at : List ℕ) (n : ℕ) → Written 0 20 xs at n → clearedOf at n ≡ packed xs
 tones-written xs at n w = rw (w .cleared, w .count)
 
 -- ---- a list in the struct and back
@@ -173,7 +163,7 @@ module _ (p : ℕ → Bool) where
       → Written 0 20 (filterOf p (take (i + 1) all)) (set at n (getD all i 0)) (n + boolByte b)
   chosen-on all i at n b h room e w = rw (filter-on all i b h (sym e)) (written-one b (filterOf p (take i all)) at n (getD all i 0) room w)
 
-  pub chosen-all : (t : Tones) (i : ℕ) (at : List ℕ) (n : ℕ) → i ≡ t .n → Written 0 20 (filterOf p (take i (t .at))) at n → cleared at n ≡ packed (filterOf p (listed t))
+  pub chosen-all : (t : Tones) (i : ℕ) (at : List ℕ) (n : ℕ) → i ≡ t .n → Written 0 20 (filterOf p (take i (t .at))) at n → clearedOf at n ≡ packed (filterOf p (listed t))
   chosen-all t i at n e w = tones-written (filterOf p (take i (t .at))) at n w ∙ ap (λ (k : ℕ). packed (filterOf p (take k (t .at)))) e
 
   -- what is kept and then filtered passes both
@@ -188,22 +178,22 @@ module _ (p : ℕ → Bool) where
       last true b e = filter-one b (lo + k) e
       last false b e = refl
 
-pub chord-tones-few : (t : Tones) (chord : List ℕ) → t .n ≤ 20 → chordTonesOf t chord .n ≤ 20
-chord-tones-few t chord h =
-    omega (arith, count-filter (inChordOf chord) (listed t), count-most (inChordOf chord) (listed t), length-take (t .n) (t .at))
-
 kept-same : (p q : ℕ → Bool) → ((n : ℕ) → p n ≡ q n) → (lo k : ℕ) → kept p lo k ≡ kept q lo k
 unfolding kept
 kept-same p q h lo zero = refl
 kept-same p q h lo (suc k) = rw (kept-same p q h lo k, h (lo + k))
 
+-- those of a list's that pass both
+pub filtered-both : (p q : ℕ → Bool) (xs : List ℕ) → packed (filterOf (λ n. p n && q n) xs) ≡ packed (filterOf q (listed (packed (filterOf p xs))))
+filtered-both p q xs = rw (listed-packed (filterOf p xs), filter-both p q xs)
+
 -- ---- the chord's tones are a filter of the scale's notes, and the rootless ones a filter of these
 no-class : (n : ℕ) → eqb (n % 12) noClass ≡ false
 no-class n = ne-eqb (n % 12) 12 (λ e. omega arith)
 
-sung-both : (chord pool : List ℕ) (n : ℕ) → (hasClass pool n && inChordOf chord n) ≡ isSungOf chord pool noClass n
+sung-both : (chord : List ℕ) (pool : List Bool) (n : ℕ) → (hasClass pool n && inChordOf chord n) ≡ isSungOf chord pool noClass n
 unfolding isSungOf
-sung-both chord pool n = rw (no-class n) (swapped (hasOf pool (n % 12)) (inChordOf chord n))
+sung-both chord pool n = rw (no-class n) (swapped (inPool pool (n % 12)) (inChordOf chord n))
   where
     swapped : (a b : Bool) → (a && b) ≡ (b && true && a)
     swapped true true = refl
@@ -211,9 +201,9 @@ sung-both chord pool n = rw (no-class n) (swapped (hasOf pool (n % 12)) (inChord
     swapped false true = refl
     swapped false false = refl
 
-sung-other : (chord pool : List ℕ) (root n : ℕ) → (isSungOf chord pool noClass n && isOther root n) ≡ isSungOf chord pool root n
+sung-other : (chord : List ℕ) (pool : List Bool) (root n : ℕ) → (isSungOf chord pool noClass n && isOther root n) ≡ isSungOf chord pool root n
 unfolding isSungOf
-sung-other chord pool root n = rw (no-class n) (moved (inChordOf chord n) (hasOf pool (n % 12)) (isOther root n))
+sung-other chord pool root n = rw (no-class n) (moved (inChordOf chord n) (inPool pool (n % 12)) (isOther root n))
   where
     moved : (a b c : Bool) → ((a && true && b) && c) ≡ (a && c && b)
     moved true true true = refl
@@ -222,19 +212,19 @@ sung-other chord pool root n = rw (no-class n) (moved (inChordOf chord n) (hasOf
     moved true false false = refl
     moved false b c = refl
 
-pub tones-from : (chord pool : List ℕ) (lo hi : ℕ) → filterOf (inChordOf chord) (listed (scaleNotesOf pool lo hi)) ≡ tonesIn chord pool noClass lo hi
+pub tones-from : (chord : List ℕ) (pool : List Bool) (lo hi : ℕ) → filterOf (inChordOf chord) (listed (scaleNotesOf pool lo hi)) ≡ tonesIn chord pool noClass lo hi
 unfolding scaleNotesIn tonesIn
 tones-from chord pool lo hi =
     ap (filterOf (inChordOf chord)) (listed-packed (scaleNotesIn pool lo hi)) ∙ filter-kept (inChordOf chord) (hasClass pool) lo (hi + 1 - lo)
     ∙ kept-same (λ n. hasClass pool n && inChordOf chord n) (isSungOf chord pool noClass) (sung-both chord pool) lo (hi + 1 - lo)
 
-rootless-from : (chord pool : List ℕ) (root lo hi : ℕ) → filterOf (isOther root) (listed (tonesInOf chord pool noClass lo hi)) ≡ tonesIn chord pool root lo hi
+rootless-from : (chord : List ℕ) (pool : List Bool) (root lo hi : ℕ) → filterOf (isOther root) (listed (tonesInOf chord pool noClass lo hi)) ≡ tonesIn chord pool root lo hi
 unfolding tonesIn
 rootless-from chord pool root lo hi =
     ap (filterOf (isOther root)) (listed-packed (tonesIn chord pool noClass lo hi)) ∙ filter-kept (isOther root) (isSungOf chord pool noClass) lo (hi + 1 - lo)
     ∙ kept-same (λ n. isSungOf chord pool noClass n && isOther root n) (isSungOf chord pool root) (sung-other chord pool root) lo (hi + 1 - lo)
 
-pub ground-from : (style : LeadStyle) (chord : Chord) (pool : List ℕ) (sung : Tones) → sung ≡ scaleNotesOf pool (style .lo) (style .hi) → groundFrom style chord sung ≡ groundOf style chord pool
+pub ground-from : (style : LeadStyle) (chord : Chord) (pool : List Bool) (sung : Tones) → sung ≡ scaleNotesOf pool (style .lo) (style .hi) → groundFrom style chord sung ≡ groundOf style chord pool
 unfolding groundFrom groundOf
 ground-from style chord pool sung e =
     rw (e, tones-from (chord .notes) pool (style .lo) (style .hi), rootless-from (chord .notes) pool (chord .«root_pc») (style .lo) (style .hi))
@@ -250,10 +240,10 @@ kept-few passes lo zero = omega arith
 kept-few passes lo (suc k) =
     omega (arith, length-append (kept passes lo k) (one (passes (lo + k)) (lo + k)), kept-few passes lo k, one-few (passes (lo + k)) (lo + k))
 
-pub tones-few : (chord pool : List ℕ) (avoid lo hi : ℕ) → hi < lo + 20 → length (tonesIn chord pool avoid lo hi) ≤ 20
+pub tones-few : (chord : List ℕ) (pool : List Bool) (avoid lo hi : ℕ) → hi < lo + 20 → length (tonesIn chord pool avoid lo hi) ≤ 20
 unfolding tonesIn
 tones-few chord pool avoid lo hi h = omega (arith, kept-few (isSungOf chord pool avoid) lo (hi + 1 - lo))
 
-pub scale-few : (pool : List ℕ) (lo hi : ℕ) → hi < lo + 20 → length (scaleNotesIn pool lo hi) ≤ 20
+pub scale-few : (pool : List Bool) (lo hi : ℕ) → hi < lo + 20 → length (scaleNotesIn pool lo hi) ≤ 20
 unfolding scaleNotesIn
 scale-few pool lo hi h = omega (arith, kept-few (hasClass pool) lo (hi + 1 - lo))

@@ -2,13 +2,13 @@
 use mathlib.Core.Bool.{Bool, cond}
 use mathlib.Core.List.{List}
 use Prim.Native.Nat.{ℕ}
-use Rattle.composer.specs.Lead.Tones.{noClass, tonesInOf, chordTonesOf, withoutOf, strongOf}
+use Rattle.composer.specs.Lead.Tones.{noClass, tonesInOf, chordTonesOf, strongOf}
 use Rattle.composer.specs.declared.chord.Chord.{Chord}
 use Rattle.composer.specs.declared.style.LeadStyle.{LeadStyle}
 use Rattle.composer.specs.declared.lead.tones.Tones.{Tones}
 use Rattle.composer.specs.declared.lead.ground.Ground.{Ground}
 
-unfoldable pub groundOf : LeadStyle → Chord → List ℕ → Ground
+unfoldable pub groundOf : LeadStyle → Chord → List Bool → Ground
 groundOf style chord pool =
     let tones = tonesInOf (chord .notes) pool noClass (style .lo) (style .hi) in
     let rootless = tonesInOf (chord .notes) pool (chord .«root_pc») (style .lo) (style .hi) in
@@ -17,8 +17,8 @@ groundOf style chord pool =
 -- the same from the scale's notes in the window
 unfoldable pub groundFrom : LeadStyle → Chord → Tones → Ground
 groundFrom style chord sung =
-    let tones = chordTonesOf sung (chord .notes) in
-    record { lo = style .lo; hi = style .hi; velocity = style .velocity; tones = tones; strong = strongOf tones (withoutOf tones (chord .«root_pc»)) }
+    let found = chordTonesOf sung chord in
+    record { lo = style .lo; hi = style .hi; velocity = style .velocity; tones = found .tones; strong = strongOf (found .tones) (found .rootless) }
 
 abbrev pub tonesForOf : Ground → Bool → Tones
 tonesForOf g strong = cond strong (g .strong) (g .tones)

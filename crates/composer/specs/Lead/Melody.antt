@@ -1,5 +1,5 @@
 -- The melody: each note of the rhythm gets a pitch and a velocity. Definitions only.
-use mathlib.Core.Bool.{cond}
+use mathlib.Core.Bool.{Bool, cond}
 use mathlib.Core.List.{List, [], _∷_}
 use Prim.Native.Nat.{ℕ, zero, suc, _+_, _-_, _/_, max}
 use lib.Dec.{eqb}
@@ -43,7 +43,7 @@ velocityOf ChordTone x = x
 velocityOf Passing x = x
 
 -- the role, the pitch, the velocity: drawn in this order
-unfoldable pub stepOf : List ℕ → Ground → Line → Place → ℕ → LeadStep
+unfoldable pub stepOf : List Bool → Ground → Line → Place → ℕ → LeadStep
 stepOf pool g l p first =
     let c = roleOf l p in
     let q = pitchOf (c .role) (c .stream) pool g l p first in
@@ -58,7 +58,7 @@ abbrev pub openingOf : Sung → ℕ
 openingOf m = firstOf (m .count) (m .line .prev) (getD (m .notes) 0 pastLead .note)
 
 -- one note more
-unfoldable pub singOf : List ℕ → Ground → ℕ → Beats → Sung → ℕ → Sung
+unfoldable pub singOf : List Bool → Ground → ℕ → Beats → Sung → ℕ → Sung
 singOf pool g bar b m i =
     let t = stepOf pool g (m .line) (placeOf bar b i) (openingOf m) in
     record {
@@ -68,15 +68,15 @@ singOf pool g bar b m i =
     }
 
 -- a bar's first i notes
-unfoldable pub barTo : List ℕ → Ground → ℕ → Beats → Sung → ℕ → Sung
+unfoldable pub barTo : List Bool → Ground → ℕ → Beats → Sung → ℕ → Sung
 barTo pool g bar b m zero = m
 barTo pool g bar b m (suc i) = singOf pool g bar b (barTo pool g bar b m i) i
 
-abbrev pub singBarOf : List ℕ → Ground → ℕ → Beats → Sung → Sung
+abbrev pub singBarOf : List Bool → Ground → ℕ → Beats → Sung → Sung
 singBarOf pool g bar b m = barTo pool g bar b m (b .n)
 
 -- a tone of the window's top octave, the nearest to 2 over the window's middle
-unfoldable pub startOf : LeadStyle → Chord → List ℕ → ℕ
+unfoldable pub startOf : LeadStyle → Chord → List Bool → ℕ
 startOf style chord pool =
     nearestOf (tonesIn (chord .notes) pool noClass (max (style .lo) (style .hi - 12)) (style .hi)) ((style .lo + style .hi) / 2 + 2)
 
@@ -88,10 +88,10 @@ unfoldable pub openLineOf : ℕ → NoiseStream → Sung
 openLineOf first s = record { notes = replicate 56 noLead; count = 0; line = newLineOf first s }
 
 -- the first k bars, each over its chord
-unfoldable pub barsTo : List Beats → List Chord → List ℕ → LeadStyle → Sung → ℕ → Sung
+unfoldable pub barsTo : List Beats → List Chord → List Bool → LeadStyle → Sung → ℕ → Sung
 barsTo beats bars pool style m zero = m
 barsTo beats bars pool style m (suc k) =
     singBarOf pool (groundOf style (getD bars k pastChord) pool) k (getD beats k pastBeats) (barsTo beats bars pool style m k)
 
-unfoldable pub melodyOf : NoiseStream → List Beats → List Chord → List ℕ → LeadStyle → Sung
+unfoldable pub melodyOf : NoiseStream → List Beats → List Chord → List Bool → LeadStyle → Sung
 melodyOf s beats bars pool style = barsTo beats bars pool style (openLineOf (startOf style (getD bars 0 pastChord) pool) s) 8

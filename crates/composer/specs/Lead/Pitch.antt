@@ -44,7 +44,7 @@ peakNoteOf s g prev =
     pitched (nearOf (g .strong) (lowerOf (prev + 3 + p .value) (g .hi))) (p .stream)
 
 -- against the leap
-abbrev pub resolveNoteOf : List ℕ → Ground → ℕ → ℕ → ℕ
+abbrev pub resolveNoteOf : List Bool → Ground → ℕ → ℕ → ℕ
 resolveNoteOf pool g from prev = scaleStepOf pool (g .lo) (g .hi) prev (ltb prev from) 1
 
 -- a drift of -4 to 4
@@ -55,14 +55,14 @@ chordNoteOf s g strong prev =
     pitched (boundedOf t (nearOf t (heldOf (prev + p .value - 4) (g .lo) (g .hi))) prev) (p .stream)
 
 -- a coin for the way, then the chance 0.3 to skip
-unfoldable pub passingNoteOf : NoiseStream → List ℕ → Ground → ℕ → PitchDraw
+unfoldable pub passingNoteOf : NoiseStream → List Bool → Ground → ℕ → PitchDraw
 passingNoteOf s pool g prev =
     let c = coinOf s in
     let k = chanceOf (c .stream) (ofBits binary32 0x3e99_999a) in
     pitched (scaleStepOf pool (g .lo) (g .hi) prev (c .value) (stepsOf (k .value))) (k .stream)
 
 -- `first` is the melody's first note
-unfoldable pub pitchOf : Role → NoiseStream → List ℕ → Ground → Line → Place → ℕ → PitchDraw
+unfoldable pub pitchOf : Role → NoiseStream → List Bool → Ground → Line → Place → ℕ → PitchDraw
 pitchOf Quote s pool g l p first = pitched (getD (l .head) (p .i) 0) s
 pitchOf Close s pool g l p first = pitched (closeNoteOf g first) s
 pitchOf Peak s pool g l p first = peakNoteOf s g (l .prev)

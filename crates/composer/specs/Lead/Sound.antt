@@ -1,6 +1,6 @@
 -- What the melody's functions ask: a bar's tones, the line and the notes so far are in the window and the scale. Definitions only.
 use mathlib.Core.Path.{_≡_}
-use mathlib.Core.Bool.{true}
+use mathlib.Core.Bool.{Bool, true}
 use mathlib.Core.List.{List}
 use Prim.Native.Nat.{ℕ, _+_, _-_, _≤_, _<_, max}
 use lib.Dec.{T}
@@ -23,14 +23,14 @@ use Rattle.composer.specs.declared.lead.ground.Ground.{Ground}
 use Rattle.composer.specs.declared.lead.melody.Sung.{Sung}
 
 -- tones: some, few, each in the window and the scale
-pub record Tuned (pool : List ℕ) (lo hi : ℕ) (t : Tones) : Type 0 where
+pub record Tuned (pool : List Bool) (lo hi : ℕ) (t : Tones) : Type 0 where
   pub count : 0 < t .n
   pub few : t .n ≤ 20
   pub some : 0 < length (listed t)
   pub fit : T (allOf (fitsOf pool lo hi) (listed t))
 
 -- a bar's ground: a window of at most 20, tuned tones, and every snap lands in the window and the scale
-pub record Sound (pool : List ℕ) (g : Ground) : Type 0 where
+pub record Sound (pool : List Bool) (g : Ground) : Type 0 where
   pub low : 40 ≤ g .lo
   pub wide : g .hi < g .lo + 20
   pub high : g .hi < 120
@@ -39,7 +39,7 @@ pub record Sound (pool : List ℕ) (g : Ground) : Type 0 where
   pub snaps : (n : ℕ) → g .lo ≤ n → n ≤ g .hi → T (fitsOf pool (g .lo) (g .hi) (snappedOf pool (g .lo) (g .hi) n))
 
 -- a line: its last note, the notes to quote, and the melody's first note are in the window and the scale
-pub record Fit (pool : List ℕ) (lo hi : ℕ) (l : Line) (opening : ℕ) : Type 0 where
+pub record Fit (pool : List Bool) (lo hi : ℕ) (l : Line) (opening : ℕ) : Type 0 where
   pub low : lo ≤ l .prev
   pub high : l .prev ≤ hi
   pub size : length (l .head) ≡ 2
@@ -58,13 +58,13 @@ Quotable ChordTone i heads = T true
 Quotable Passing i heads = T true
 
 -- the notes sung so far
-pub record Good (pool : List ℕ) (lo hi : ℕ) (m : Sung) : Type 0 where
+pub record Good (pool : List Bool) (lo hi : ℕ) (m : Sung) : Type 0 where
   pub size : length (m .notes) ≡ 56
   pub line : Fit pool lo hi (m .line) (openingOf m)
   pub notes : (i : ℕ) → i < m .count → T (fitsOf pool lo hi (getD (m .notes) i pastLead .note))
 
 -- all that a melody is sung over
-pub record Ready (beats : List Beats) (bars : List Chord) (pool : List ℕ) (style : LeadStyle) : Type 0 where
+pub record Ready (beats : List Beats) (bars : List Chord) (pool : List Bool) (style : LeadStyle) : Type 0 where
   pub low : 40 ≤ style .lo
   pub fair : style .lo + 12 ≤ style .hi
   pub wide : style .hi < style .lo + 20

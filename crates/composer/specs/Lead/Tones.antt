@@ -5,7 +5,9 @@ use Prim.Native.Nat.{ℕ, zero, suc, _+_, _-_, _*_, _%_, min}
 use lib.Dec.{leb, ltb, eqb}
 use lib.ListN.{length, take, getD, set, replicate}
 use Rattle.laws.specs.Lists.{pad, filterOf}
-use Rattle.composer.specs.Lead.Scale.{hasOf}
+use Rattle.composer.specs.Lead.Scale.{inPool}
+use Rattle.composer.specs.declared.chord.Chord.{Chord}
+use Rattle.composer.specs.declared.lead.tones.ChordTones.{ChordTones}
 use Rattle.composer.specs.declared.lead.tones.Tones.{Tones}
 
 -- n is c, or whole octaves above it
@@ -32,8 +34,8 @@ abbrev pub isToneOf : List ℕ → ℕ → Bool
 isToneOf lowest n = leb (getD lowest (n % 12) 0) n
 
 -- n is a chord tone of the scale, and of another class than `avoid`
-unfoldable pub isSungOf : List ℕ → List ℕ → ℕ → ℕ → Bool
-isSungOf chord pool avoid n = inChordOf chord n && not (eqb (n % 12) avoid) && hasOf pool (n % 12)
+unfoldable pub isSungOf : List ℕ → List Bool → ℕ → ℕ → Bool
+isSungOf chord pool avoid n = inChordOf chord n && not (eqb (n % 12) avoid) && inPool pool (n % 12)
 
 -- no note's class
 abbrev pub noClass : ℕ
@@ -49,39 +51,40 @@ kept passes lo zero = []
 kept passes lo (suc k) = kept passes lo k ++ one (passes (lo + k)) (lo + k)
 
 -- the chord's tones of the scale from lo to hi
-unfoldable pub tonesIn : List ℕ → List ℕ → ℕ → ℕ → ℕ → List ℕ
+unfoldable pub tonesIn : List ℕ → List Bool → ℕ → ℕ → ℕ → List ℕ
 tonesIn chord pool avoid lo hi = kept (isSungOf chord pool avoid) lo (hi + 1 - lo)
 
--- a list of at most 20 in the struct, and back
+-- a list of at most 20 in the struct, the first n of an array there, and back
 abbrev pub packed : List ℕ → Tones
 packed xs = record { at = pad 0 20 xs; n = length xs }
+
+abbrev pub clearedOf : List ℕ → ℕ → Tones
+clearedOf at n = record { at = set at n 0; n = n }
 
 abbrev pub listed : Tones → List ℕ
 listed t = take (t .n) (t .at)
 
-abbrev pub tonesInOf : List ℕ → List ℕ → ℕ → ℕ → ℕ → Tones
+abbrev pub tonesInOf : List ℕ → List Bool → ℕ → ℕ → ℕ → Tones
 tonesInOf chord pool avoid lo hi = packed (tonesIn chord pool avoid lo hi)
 
 -- the scale's notes from lo to hi
-abbrev pub hasClass : List ℕ → ℕ → Bool
-hasClass pool n = hasOf pool (n % 12)
+abbrev pub hasClass : List Bool → ℕ → Bool
+hasClass pool n = inPool pool (n % 12)
 
-unfoldable pub scaleNotesIn : List ℕ → ℕ → ℕ → List ℕ
+unfoldable pub scaleNotesIn : List Bool → ℕ → ℕ → List ℕ
 scaleNotesIn pool lo hi = kept (hasClass pool) lo (hi + 1 - lo)
 
-abbrev pub scaleNotesOf : List ℕ → ℕ → ℕ → Tones
+abbrev pub scaleNotesOf : List Bool → ℕ → ℕ → Tones
 scaleNotesOf pool lo hi = packed (scaleNotesIn pool lo hi)
 
--- those of the notes that are the chord's
-abbrev pub chordTonesOf : Tones → List ℕ → Tones
-chordTonesOf notes chord = packed (filterOf (inChordOf chord) (listed notes))
-
--- those of the tones that are of another class
+-- those of the notes that are the chord's, and those of them that are of another class than its root
 abbrev pub isOther : ℕ → ℕ → Bool
 isOther pc n = not (eqb (n % 12) pc)
 
-abbrev pub withoutOf : Tones → ℕ → Tones
-withoutOf tones pc = packed (filterOf (isOther pc) (listed tones))
+abbrev pub chordTonesOf : Tones → Chord → ChordTones
+chordTonesOf notes chord =
+    let tones = packed (filterOf (inChordOf (chord .notes)) (listed notes)) in
+    record { tones = tones; rootless = packed (filterOf (isOther (chord .«root_pc»)) (listed tones)) }
 
 -- the tones without the root, where there are any
 abbrev pub strongOf : Tones → Tones → Tones

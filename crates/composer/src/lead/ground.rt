@@ -6,7 +6,6 @@ use crate::chord::Chord;
 use crate::lead::tones::Tones;
 use crate::lead::tones::chord_tones;
 use crate::lead::tones::strong_of;
-use crate::lead::tones::without;
 use crate::spread::Spread;
 use crate::style::LeadStyle;
 
@@ -27,9 +26,9 @@ pub(crate) fn ground_of(style: LeadStyle, chord: Chord, sung: Tones) -> Ground
     let lo = style.lo;
     let hi = style.hi;
     let velocity = style.velocity;
-    let notes = chord.notes;
-    let tones = chord_tones(sung, &notes);
-    let rootless = without(tones, chord.root_pc);
+    let found = chord_tones(sung, chord);
+    let tones = found.tones;
+    let rootless = found.rootless;
     let strong = strong_of(tones, rootless);
     Ground {
         lo: lo,

@@ -73,7 +73,7 @@ fn velocity(role: Role, x: f32) -> f32
 }
 
 // The role, the pitch, the velocity: drawn in this order.
-fn step(pool: &[u8], g: Ground, l: Line, p: Place, first: u8) -> LeadStep
+fn step(pool: &[bool], g: Ground, l: Line, p: Place, first: u8) -> LeadStep
     requires { ⌜ Sound (now pool) g ⌝ }
     requires { ⌜ Fit (now pool) (g .lo) (g .hi) l first ⌝ }
     ensures { λ r. ⌜ r ≡ stepOf (now (pool .entry)) g l p first ⌝ }
@@ -104,16 +104,16 @@ fn opening(count: usize, start: u8, sung: u8) -> u8
 }
 
 // The note that the line starts from.
-fn start(style: LeadStyle, chord: Chord, pool: &[u8]) -> u8
+fn start(style: LeadStyle, chord: Chord, pool: &[bool]) -> u8
     requires { ⌜ (style .lo + 12 ≤ style .hi) × (style .hi < style .lo + 20) × (style .hi < 120) × (0 < length (tonesIn (chord .notes) (now pool) noClass (max (style .lo) (style .hi - 12)) (style .hi))) ⌝ }
     ensures { λ r. ⌜ r ≡ startOf style chord (now (pool .entry)) ⌝ }
 {
     let lo = style.lo;
     let hi = style.hi;
-    let notes = chord.notes;
     let top = scale_notes(pool, hi - OCTAVE, hi);
-    let t = chord_tones(top, &notes);
-    near(t, (lo + hi) / 2 + START_LIFT)
+    let found = chord_tones(top, chord);
+    let tones = found.tones;
+    near(tones, (lo + hi) / 2 + START_LIFT)
 }
 
 // The line before its first note.
@@ -134,7 +134,7 @@ pub(crate) fn melody(
     s: NoiseStream,
     beats: [Beats; 8],
     bars: [Chord; 8],
-    pool: &[u8],
+    pool: &[bool],
     style: LeadStyle,
 ) -> Sung
     requires { ⌜ Ready beats bars (now pool) style ⌝ }
@@ -151,6 +151,9 @@ pub(crate) fn melody(
         let bar = k as u8;
         let at = b.at;
         let n = b.n;
+        if n == 0 {
+            continue;
+        }
         let g = ground_of(style, c, sung);
         for i in 0..n {
             let place = place_of(bar, b, i);

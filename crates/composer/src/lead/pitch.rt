@@ -105,7 +105,7 @@ fn peak_note(s: NoiseStream, g: Ground, prev: u8) -> PitchDraw
 }
 
 // A step against the leap from `from` to prev.
-fn resolve_note(pool: &[u8], g: Ground, from: u8, prev: u8) -> u8
+fn resolve_note(pool: &[bool], g: Ground, from: u8, prev: u8) -> u8
     requires { ⌜ (g .lo ≤ prev) × (prev ≤ g .hi) × (40 ≤ g .lo) × (g .hi < g .lo + 20) × (g .hi < 120) ⌝ }
     ensures { λ r. ⌜ r ≡ resolveNoteOf (now (pool .entry)) g from prev ⌝ }
 {
@@ -131,7 +131,7 @@ fn chord_note(s: NoiseStream, g: Ground, strong: bool, prev: u8) -> PitchDraw
 }
 
 // A coin for the way, then the chance to skip.
-fn passing_note(s: NoiseStream, pool: &[u8], g: Ground, prev: u8) -> PitchDraw
+fn passing_note(s: NoiseStream, pool: &[bool], g: Ground, prev: u8) -> PitchDraw
     requires { ⌜ (g .lo ≤ prev) × (prev ≤ g .hi) × (40 ≤ g .lo) × (g .hi < g .lo + 20) × (g .hi < 120) ⌝ }
     ensures { λ r. ⌜ r ≡ passingNoteOf s (now (pool .entry)) g prev ⌝ }
 {
@@ -151,7 +151,7 @@ fn passing_note(s: NoiseStream, pool: &[u8], g: Ground, prev: u8) -> PitchDraw
 pub(crate) fn pitch_of(
     role: Role,
     s: NoiseStream,
-    pool: &[u8],
+    pool: &[bool],
     g: Ground,
     l: Line,
     p: Place,

@@ -1,24 +1,35 @@
 // The lead's scale: what fits the window, the nearest note of the scale, and steps along it.
 ghost use mathlib.Core.Path.{_≡_};
-ghost use Prim.Native.Nat.{_+_, _≤_, _<_};
-ghost use Rattle.composer.specs.Lead.Scale.{hasOf, fitsOf, candidateOf, snappedOf, movedOf, roomOf, walkOf, scaleStepOf};
+ghost use Prim.Native.Nat.{ℕ, _+_, _≤_, _<_};
+ghost use lib.ListN.{getD};
+ghost use Rattle.composer.specs.Lead.Scale.{poolOf, inPool, fitsOf, candidateOf, snappedOf, movedOf, roomOf, walkOf, scaleStepOf};
 use crate::chord::OCTAVE;
+use crate::harmony::Scale;
 
-// Whether a pitch class is in the scale.
-pub(crate) fn has(pool: &[u8], pc: u8) -> bool
-    ensures { λ r. ⌜ r ≡ hasOf (now (pool .entry)) pc ⌝ }
+// The lead's pool: for each of the twelve pitch classes, whether the scale has it.
+pub(crate) fn pool_of(scale: Scale) -> [bool; 12]
+    requires { ⌜ (scale .n ≤ 6) × ((k : ℕ) → k < scale .n → getD (scale .pcs) k 0 < 12) ⌝ }
+    ensures { λ r. ⌜ r ≡ poolOf scale ⌝ }
 {
-    let mut found = false;
-    let mut i: usize = 0;
-    while i < pool.len() {
-        found = found | (pool[i] == pc);
-        i += 1;
+    let pcs = scale.pcs;
+    let n = scale.n;
+    let mut pool = [false; 12];
+    for i in 0..n {
+        pool[pcs[i] as usize] = true;
     }
-    found
+    pool
+}
+
+// Whether a pitch class is in the pool.
+pub(crate) fn has(pool: &[bool], pc: u8) -> bool
+    ensures { λ r. ⌜ r ≡ inPool (now (pool .entry)) pc ⌝ }
+{
+    let i = pc as usize;
+    if i < pool.len() { pool[i] } else { false }
 }
 
 // Whether a note is in the window and in the scale.
-fn fits(pool: &[u8], lo: u8, hi: u8, n: u8) -> bool
+fn fits(pool: &[bool], lo: u8, hi: u8, n: u8) -> bool
     ensures { λ r. ⌜ r ≡ fitsOf (now (pool .entry)) lo hi n ⌝ }
 {
     let sung = has(pool, n % OCTAVE);
@@ -37,7 +48,7 @@ fn candidate(n: u8, d: u8, side: u8) -> u8
 }
 
 // The nearest note to n that fits, lower before higher; lo where none is within half an octave.
-fn snapped(pool: &[u8], lo: u8, hi: u8, n: u8) -> u8
+fn snapped(pool: &[bool], lo: u8, hi: u8, n: u8) -> u8
     requires { ⌜ (6 ≤ n) × (n < 250) ⌝ }
     ensures { λ r. ⌜ r ≡ snappedOf (now (pool .entry)) lo hi n ⌝ }
 {
@@ -71,7 +82,7 @@ fn room(up: bool, lo: u8, hi: u8, n: u8) -> u8
 }
 
 // Semitone by semitone, at most `space` of them, past `steps` notes of the scale.
-fn walk(pool: &[u8], up: bool, note: u8, space: u8, steps: u8) -> u8
+fn walk(pool: &[bool], up: bool, note: u8, space: u8, steps: u8) -> u8
     requires { ⌜ (space < note) × (note + space < 256) ⌝ }
     ensures { λ r. ⌜ r ≡ walkOf (now (pool .entry)) up note space steps ⌝ }
 {
@@ -89,7 +100,7 @@ fn walk(pool: &[u8], up: bool, note: u8, space: u8, steps: u8) -> u8
 }
 
 // `steps` notes of the scale up or down from a note in the window, held in the window.
-pub(crate) fn scale_step(pool: &[u8], lo: u8, hi: u8, note: u8, up: bool, steps: u8) -> u8
+pub(crate) fn scale_step(pool: &[bool], lo: u8, hi: u8, note: u8, up: bool, steps: u8) -> u8
     requires { ⌜ (lo ≤ note) × (note ≤ hi) × (40 ≤ lo) × (hi < lo + 20) × (hi < 120) ⌝ }
     ensures { λ r. ⌜ r ≡ scaleStepOf (now (pool .entry)) lo hi note up steps ⌝ }
 {

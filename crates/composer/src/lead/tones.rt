@@ -2,7 +2,8 @@
 ghost use mathlib.Core.Path.{_≡_};
 ghost use Prim.Native.Nat.{_+_, _≤_, _<_, min};
 ghost use lib.ListN.{length};
-ghost use Rattle.composer.specs.Lead.Tones.{lowestOf, isToneOf, scaleNotesOf, chordTonesOf, withoutOf, strongOf, distanceOf, rankOf, nearestOf, nearOf};
+ghost use Rattle.composer.specs.Lead.Tones.{lowestOf, isToneOf, clearedOf, scaleNotesOf, chordTonesOf, strongOf, distanceOf, rankOf, nearestOf, nearOf};
+use crate::chord::Chord;
 use crate::chord::OCTAVE;
 use crate::lead::scale::has;
 
@@ -10,6 +11,12 @@ use crate::lead::scale::has;
 pub struct Tones {
     pub at: [u8; 20],
     pub n: usize,
+}
+
+// A chord's tones, and those of them that are of another class than its root.
+pub struct ChordTones {
+    pub tones: Tones,
+    pub rootless: Tones,
 }
 
 // Above every note.
@@ -46,8 +53,20 @@ fn is_tone(lowest: [u16; 12], x: u8) -> bool
     lowest[class] <= x as u16
 }
 
+// The first n, with 0 behind them: what was written last may not have been kept.
+fn cleared(at: [u8; 20], n: usize) -> Tones
+    ensures { λ r. ⌜ r ≡ clearedOf at n ⌝ }
+{
+    if n < 20 {
+        let mut out = at;
+        out[n] = 0;
+        return Tones { at: out, n: n };
+    }
+    Tones { at: at, n: n }
+}
+
 // The scale's notes from lo to hi.
-pub(crate) fn scale_notes(pool: &[u8], lo: u8, hi: u8) -> Tones
+pub(crate) fn scale_notes(pool: &[bool], lo: u8, hi: u8) -> Tones
     requires { ⌜ (lo ≤ hi) × (hi < lo + 20) × (hi < 250) ⌝ }
     ensures { λ r. ⌜ r ≡ scaleNotesOf (now (pool .entry)) lo hi ⌝ }
 {
@@ -61,57 +80,38 @@ pub(crate) fn scale_notes(pool: &[u8], lo: u8, hi: u8) -> Tones
         n += keep as usize;
         x += 1;
     }
-    // What was written last may not have been kept.
-    if n == 20 {
-        return Tones { at: at, n: n };
-    }
-    at[n] = 0;
-    Tones { at: at, n: n }
+    cleared(at, n)
 }
 
-// Those of the notes that are the chord's.
-pub(crate) fn chord_tones(notes: Tones, chord: &[u8]) -> Tones
+// Those of the notes that are the chord's, and those of them that are not its root.
+pub(crate) fn chord_tones(notes: Tones, chord: Chord) -> ChordTones
     requires { ⌜ notes .n ≤ 20 ⌝ }
-    ensures { λ r. ⌜ r ≡ chordTonesOf notes (now (chord .entry)) ⌝ }
+    ensures { λ r. ⌜ r ≡ chordTonesOf notes chord ⌝ }
 {
-    let lowest = lowest_of(chord);
+    let members = chord.notes;
+    let lowest = lowest_of(&members);
+    let root = chord.root_pc;
     let all = notes.at;
     let count = notes.n;
     let mut at = [0u8; 20];
     let mut n: usize = 0;
+    let mut others = [0u8; 20];
+    let mut m: usize = 0;
     for i in 0..count {
         let x = all[i];
         let keep = is_tone(lowest, x);
+        let other = keep & (x % OCTAVE != root);
         at[n] = x;
         n += keep as usize;
+        others[m] = x;
+        m += other as usize;
     }
-    if n == 20 {
-        return Tones { at: at, n: n };
+    let tones = cleared(at, n);
+    let rootless = cleared(others, m);
+    ChordTones {
+        tones: tones,
+        rootless: rootless,
     }
-    at[n] = 0;
-    Tones { at: at, n: n }
-}
-
-// Those of the tones that are of another class.
-pub(crate) fn without(tones: Tones, pc: u8) -> Tones
-    requires { ⌜ tones .n ≤ 20 ⌝ }
-    ensures { λ r. ⌜ r ≡ withoutOf tones pc ⌝ }
-{
-    let all = tones.at;
-    let count = tones.n;
-    let mut at = [0u8; 20];
-    let mut n: usize = 0;
-    for i in 0..count {
-        let x = all[i];
-        let keep = x % OCTAVE != pc;
-        at[n] = x;
-        n += keep as usize;
-    }
-    if n == 20 {
-        return Tones { at: at, n: n };
-    }
-    at[n] = 0;
-    Tones { at: at, n: n }
 }
 
 // The tones without the root, where there are any.

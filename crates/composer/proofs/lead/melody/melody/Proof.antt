@@ -1,11 +1,12 @@
 -- After k turns k bars are sung, and after i more turns i notes of the next; what the turns ask is what a good melody so far gives. Assumes nothing.
-use mathlib.Core.Path.{_≡_, refl, _∙_}
+use mathlib.Core.Path.{_≡_, refl, sym, _∙_}
 use mathlib.Core.List.{List}
 use Prim.Native.Nat.{ℕ, _+_, _-_, _*_, _≤_, _<_}
 use native.Mathlib.Omega.{arith}
 use lib.ListN.{getD, replicate}
 use Rattle.composer.specs.Chord.{pastChord}
 use Rattle.composer.specs.Lead.Beats.{pastBeats}
+use Rattle.composer.specs.Lead.Ground.{groundOf}
 use Rattle.composer.specs.Lead.Melody.{noLead, barTo, openLineOf, barsTo, melodyOf}
 use Rattle.composer.specs.declared.lead.line.Line.{Line}
 use Rattle.composer.specs.declared.lead.melody.LeadNote.{LeadNote}
@@ -64,16 +65,35 @@ array-copy-out-b c = omega arith
 cast-bar : tie.Need-cast-bar Inv-loop2 μ-loop2 Inv-loop μ-loop
 cast-bar c = omega arith
 
+add-k : tie.Need-add-k Inv-loop2 μ-loop2 Inv-loop μ-loop
+add-k c = omega arith
+
+loop-less : tie.Need-loop-less Inv-loop2 μ-loop2 Inv-loop μ-loop
+loop-less c = omega arith
+
+-- a bar with no beat sings nothing
+loop-again : tie.Need-loop-again Inv-loop2 μ-loop2 Inv-loop μ-loop
+unfolding barTo
+loop-again c =
+    let l = c .before .before .before .before .before .loop in
+    let opened = c .before .before .before .before .before .before .open-line .result in
+    let d = c .before .before .before .before .before .before .before .before .before .before .before in
+    let sung = sungWith (l .notes) (l .count) (l .line) in (
+      omega arith,
+      omega arith,
+      bars-more (d .args .t2) (d .args .t3) (d .args .pool .now) (d .args .style) (d .pre) (sungWith (replicate 56 noLead) 0 opened) sung sung (groundOf (d .args .style) (getD (d .args .t3) (l .k) pastChord) (d .args .pool .now)) (l .k) 0 (l .inv .2) refl refl (sym (c .if1 .taken)),
+    )
+
 ground-of-requires : tie.Need-ground-of-requires Inv-loop2 μ-loop2 Inv-loop μ-loop
 ground-of-requires c κs =
-    let a = c .before .before .before .before .before .before .before .before .before .before .args in
-    rw (c .before .before .before .before .before .before .scale-notes .ensures) (scale-few (a .pool .now) (a .style .lo) (a .style .hi) (c .before .before .before .before .before .before .before .before .before .before .pre .wide))
+    let a = c .before .before .before .before .before .before .before .before .before .before .before .args in
+    rw (c .before .before .before .before .before .before .before .scale-notes .ensures) (scale-few (a .pool .now) (a .style .lo) (a .style .hi) (c .before .before .before .before .before .before .before .before .before .before .before .pre .wide))
 
 loop2-holds : tie.Need-loop2-holds Inv-loop2 μ-loop2 Inv-loop μ-loop
 unfolding barTo
 loop2-holds c =
-    let l = c .before .before .before .before .before .loop in
-    let few = c .before .before .before .before .before .before .before .before .before .before .before .pre .few (l .k) (omega arith) in
+    let l = c .before .before .before .before .before .before .loop in
+    let few = c .before .before .before .before .before .before .before .before .before .before .before .before .pre .few (l .k) (omega arith) in
     (omega arith, few, omega arith, omega arith, refl)
 
 place-of-requires : tie.Need-place-of-requires Inv-loop2 μ-loop2 Inv-loop μ-loop
@@ -88,12 +108,12 @@ opening-requires c κs = search needs
 step-requires : tie.Need-step-requires Inv-loop2 μ-loop2 Inv-loop μ-loop
 unfolding openLineOf
 step-requires c κs =
-    let a = c .before .before .before .before .before .before .before .before .before .before .before .before .before .before .before .args in
-    let r = c .before .before .before .before .before .before .before .before .before .before .before .before .before .before .before .pre in
-    let start = c .before .before .before .before .before .before .before .before .before .before .before .before .start in
-    let window = c .before .before .before .before .before .before .before .before .before .before .before .scale-notes in
-    let opened = c .before .before .before .before .before .before .before .before .before .before .open-line in
-    let l = c .before .before .before .before .before .before .before .before .before .loop in
+    let a = c .before .before .before .before .before .before .before .before .before .before .before .before .before .before .before .before .args in
+    let r = c .before .before .before .before .before .before .before .before .before .before .before .before .before .before .before .before .pre in
+    let start = c .before .before .before .before .before .before .before .before .before .before .before .before .before .start in
+    let window = c .before .before .before .before .before .before .before .before .before .before .before .before .scale-notes in
+    let opened = c .before .before .before .before .before .before .before .before .before .before .before .open-line in
+    let l = c .before .before .before .before .before .before .before .before .before .before .loop in
     let g = c .before .before .before .before .ground-of in
     let l2 = c .before .before .before .loop2 in
     let ground = g .ensures ∙ ground-from (a .style) (getD (a .t3) (l .k) pastChord) (a .pool .now) (window .result) (window .ensures) in
@@ -123,8 +143,8 @@ loop2-less c = omega arith
 
 loop2-again : tie.Need-loop2-again Inv-loop2 μ-loop2 Inv-loop μ-loop
 loop2-again c =
-    let a = c .before .before .before .before .before .before .before .before .before .before .before .before .before .before .before .before .before .args in
-    let l0 = c .before .before .before .before .before .before .before .before .before .before .before .loop in
+    let a = c .before .before .before .before .before .before .before .before .before .before .before .before .before .before .before .before .before .before .args in
+    let l0 = c .before .before .before .before .before .before .before .before .before .before .before .before .loop in
     let k = l0 .k in
     let g = c .before .before .before .before .before .before .ground-of .result in
     let l = c .before .before .before .before .before .loop2 in
@@ -138,24 +158,24 @@ loop2-again c =
       bar-more (a .pool .now) g k (getD (a .t2) k pastBeats) (sungWith (l0 .notes) (l0 .count) (l0 .line)) (l .i) (l .notes) (l .count) (l .line) (place .result) (first .result) (t .result) (l .inv .4) (place .ensures) (first .ensures) (t .ensures),
     )
 
-add-k : tie.Need-add-k Inv-loop2 μ-loop2 Inv-loop μ-loop
-add-k c = omega arith
+add-k-2 : tie.Need-add-k-2 Inv-loop2 μ-loop2 Inv-loop μ-loop
+add-k-2 c = omega arith
 
-loop-less : tie.Need-loop-less Inv-loop2 μ-loop2 Inv-loop μ-loop
-loop-less c = omega arith
+loop-less-2 : tie.Need-loop-less-2 Inv-loop2 μ-loop2 Inv-loop μ-loop
+loop-less-2 c = omega arith
 
-loop-again : tie.Need-loop-again Inv-loop2 μ-loop2 Inv-loop μ-loop
-loop-again c =
-    let a = c .before .before .before .before .before .before .before .before .before .before .before .before .before .args in
-    let window = c .before .before .before .before .before .before .before .before .before .scale-notes in
-    let opened = c .before .before .before .before .before .before .before .before .open-line .result in
-    let l = c .before .before .before .before .before .before .before .loop in
+loop-again-2 : tie.Need-loop-again-2 Inv-loop2 μ-loop2 Inv-loop μ-loop
+loop-again-2 c =
+    let a = c .before .before .before .before .before .before .before .before .before .before .before .before .before .before .args in
+    let window = c .before .before .before .before .before .before .before .before .before .before .scale-notes in
+    let opened = c .before .before .before .before .before .before .before .before .before .open-line .result in
+    let l = c .before .before .before .before .before .before .before .before .loop in
     let g = c .before .before .ground-of in
     let l2 = c .before .loop2 in
     let ground = g .ensures ∙ ground-from (a .style) (getD (a .t3) (l .k) pastChord) (a .pool .now) (window .result) (window .ensures) in (
       omega arith,
       omega arith,
-      bars-more (a .t2) (a .t3) (a .pool .now) (a .style) (c .before .before .before .before .before .before .before .before .before .before .before .before .before .pre) (sungWith (replicate 56 noLead) 0 opened) (sungWith (l .notes) (l .count) (l .line)) (sungWith (l2 .notes) (l2 .count) (l2 .line)) (g .result) (l .k) (l2 .i) (l .inv .2) ground (l2 .inv .4) (omega arith),
+      bars-more (a .t2) (a .t3) (a .pool .now) (a .style) (c .before .before .before .before .before .before .before .before .before .before .before .before .before .before .pre) (sungWith (replicate 56 noLead) 0 opened) (sungWith (l .notes) (l .count) (l .line)) (sungWith (l2 .notes) (l2 .count) (l2 .line)) (g .result) (l .k) (l2 .i) (l .inv .2) ground (l2 .inv .4) (omega arith),
     )
 
 returns : tie.Need-returns Inv-loop2 μ-loop2 Inv-loop μ-loop
@@ -183,6 +203,9 @@ melody-spec =
     mul-b
     array-copy-out-b
     cast-bar
+    add-k
+    loop-less
+    loop-again
     ground-of-requires
     loop2-holds
     place-of-requires
@@ -197,7 +220,7 @@ melody-spec =
     add-i
     loop2-less
     loop2-again
-    add-k
-    loop-less
-    loop-again
+    add-k-2
+    loop-less-2
+    loop-again-2
     returns)

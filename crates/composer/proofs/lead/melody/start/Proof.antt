@@ -15,13 +15,10 @@ sub-scale-notes c = search needs
 scale-notes-requires : tie.Need-scale-notes-requires
 scale-notes-requires c κs = search needs
 
-slice-aggregate-chord-tones : tie.Need-slice-aggregate-chord-tones
-slice-aggregate-chord-tones c = search needs
-
 chord-tones-requires : tie.Need-chord-tones-requires
 chord-tones-requires c κs =
-    let a = c .before .before .before .before .args in
-    rw (c .before .scale-notes .ensures) (scale-few (a .pool .now) (a .style .hi - 12) (a .style .hi) (omega arith))
+    let a = c .before .before .args in
+    rw (c .scale-notes .ensures) (scale-few (a .pool .now) (a .style .hi - 12) (a .style .hi) (omega arith))
 
 add-near : tie.Need-add-near
 add-near c = search needs
@@ -31,19 +28,20 @@ add-near-2 c = search needs
 
 near-requires : tie.Need-near-requires
 near-requires c κs =
-    let a = c .before .before .before .before .before .args in
+    let d = c .before .before .before .before in
+    let a = d .args in
     let m : max (a .style .lo) (a .style .hi - 12) ≡ a .style .hi - 12 = omega arith in
-    let s = rw m at (c .before .before .before .before .before .pre .3) in
-    rw (c .chord-tones .ensures, c .before .before .scale-notes .ensures, tones-from (a .chord .notes) (a .pool .now) (a .style .hi - 12) (a .style .hi))
+    let s = rw m at (d .pre .3) in
+    rw (c .before .chord-tones .ensures, c .before .before .scale-notes .ensures, tones-from (a .chord .notes) (a .pool .now) (a .style .hi - 12) (a .style .hi))
     (s, tones-few (a .chord .notes) (a .pool .now) noClass (a .style .hi - 12) (a .style .hi) (omega arith))
 
 returns : tie.Need-returns
 unfolding startOf
 returns c =
-    let a = c .before .before .before .before .before .before .args in
+    let a = c .before .before .before .before .before .args in
     let m : max (a .style .lo) (a .style .hi - 12) ≡ a .style .hi - 12 = omega arith in
     c .near .ensures
-    ∙ rw (c .before .chord-tones .ensures, c .before .before .before .scale-notes .ensures, tones-from (a .chord .notes) (a .pool .now) (a .style .hi - 12) (a .style .hi), listed-packed (tonesIn (a .chord .notes) (a .pool .now) noClass (a .style .hi - 12) (a .style .hi)), m)
+    ∙ rw (c .before .before .chord-tones .ensures, c .before .before .before .scale-notes .ensures, tones-from (a .chord .notes) (a .pool .now) (a .style .hi - 12) (a .style .hi), listed-packed (tonesIn (a .chord .notes) (a .pool .now) noClass (a .style .hi - 12) (a .style .hi)), m)
 
 pub start-spec : {M : Type 1} → statement M
 start-spec =
@@ -51,7 +49,6 @@ start-spec =
     (tie.spec
     sub-scale-notes
     scale-notes-requires
-    slice-aggregate-chord-tones
     chord-tones-requires
     add-near
     add-near-2

@@ -1,53 +1,20 @@
--- Found so far, or in what is left from entry i on. Assumes nothing.
-use mathlib.Core.Path.{_≡_, refl, sym, _∙_}
-use mathlib.Core.Bool.{_||_}
-use Prim.Native.Nat.{_≤_, _-_}
+-- Past its end the pool has nothing. Assumes nothing.
+use mathlib.Core.Path.{sym}
+use mathlib.Core.Bool.{false}
 use native.Mathlib.Omega.{arith}
-use lib.ListN.{length, drop}
-use Rattle.composer.specs.Lead.Scale.{hasOf}
-use Rattle.composer.proofs.lead.ScaleLaws.{has-next, has-end}
+use lib.ListN.{List·getD-eq-default}
+use borrow.Author.Needs.{needs}
 use Rattle.composer.proofs.lead.scale.has.Statement.{statement}
 use Rattle.composer.proofs.lead.scale.has.Tie as tie
 
-abbrev Inv-loop : tie.InvT-loop
-Inv-loop pool pc found₀ i₀ found i = (i ≤ length pool) × (hasOf pool pc ≡ (found || hasOf (drop i pool) pc))
+shared-slice-read-result : tie.Need-shared-slice-read-result
+shared-slice-read-result c = search needs
 
-abbrev μ-loop : tie.MeasureT-loop
-μ-loop pool pc found₀ i₀ found i = length pool - i
+returns : tie.Need-returns
+returns c = search needs
 
-loop-holds : tie.Need-loop-holds Inv-loop μ-loop
-loop-holds c = (omega arith, refl)
-
-shared-slice-read-found : tie.Need-shared-slice-read-found Inv-loop μ-loop
-shared-slice-read-found c = omega arith
-
-add-i : tie.Need-add-i Inv-loop μ-loop
-add-i c = omega arith
-
-loop-less : tie.Need-loop-less Inv-loop μ-loop
-loop-less c = omega arith
-
-loop-again : tie.Need-loop-again Inv-loop μ-loop
-loop-again c =
-    let a = c .before .before .before .args in
-    let l = c .before .before .loop in
-    (omega arith, l .inv .1 ∙ has-next (a .pool .now) (a .pc) (l .i) (l .found) (omega arith))
-
-returns : tie.Need-returns Inv-loop μ-loop
-returns c =
-    let a = c .before .before .args in
-    let l = c .before .loop in
-    sym (l .inv .1 ∙ has-end (a .pool .now) (a .pc) (l .i) (l .found) (c .loop-test .left))
+returns-2 : tie.Need-returns-2
+returns-2 c = sym (List·getD-eq-default (c .before .args .pool .now) false (omega arith))
 
 pub has-spec : {M : Type 1} → statement M
-has-spec =
-    tie.close
-    (tie.spec
-    Inv-loop
-    μ-loop
-    loop-holds
-    shared-slice-read-found
-    add-i
-    loop-less
-    loop-again
-    returns)
+has-spec = tie.close (tie.spec shared-slice-read-result returns returns-2)

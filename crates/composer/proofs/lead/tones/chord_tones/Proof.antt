@@ -1,31 +1,40 @@
--- The array holds the chord's of the first i notes. Assumes nothing.
+-- The arrays hold the chord's of the first i notes, and those of them that are not its root, whatever chord has these lowest notes. Assumes nothing.
 use mathlib.Core.Path.{_≡_, ap, _∙_}
+use mathlib.Core.Bool.{Bool, _&&_}
 use mathlib.Core.List.{List}
 use Prim.Native.Nat.{ℕ, _-_, _≤_}
 use native.Mathlib.Omega.{arith}
 use lib.ListN.{length, getD, take}
 use Rattle.laws.specs.Lists.{filterOf}
-use Rattle.composer.specs.Lead.Tones.{inChordOf, isToneOf}
-use Rattle.composer.proofs.lead.TonesLaws.{cleared-full, tone-is, chosen-none, chosen-on, chosen-all}
+use Rattle.composer.specs.Lead.Tones.{inChordOf, isOther, lowestOf, isToneOf, listed}
+use Rattle.composer.proofs.lead.TonesLaws.{tone-is, chosen-none, chosen-on, chosen-all, filtered-both}
 use Rattle.laws.proofs.Bools.{bit-few}
 use Rattle.laws.proofs.Written.{Written}
 use borrow.Author.Needs.{needs}
 use Rattle.composer.proofs.lead.tones.chord_tones.Statement.{statement}
 use Rattle.composer.proofs.lead.tones.chord_tones.Tie as tie
 
+abbrev isUpper : List ℕ → ℕ → ℕ → Bool
+isUpper chord root x = inChordOf chord x && isOther root x
+
 abbrev Inv-loop : tie.InvT-loop
-Inv-loop chord lowest all count at₀ n₀ i₀ at n i = (i ≤ count) × (count ≤ 20) × (n ≤ i) × Written 0 20 (filterOf (inChordOf chord) (take i all)) at n
+Inv-loop lowest root all count at₀ n₀ others₀ m₀ i₀ at n others m i =
+    (i ≤ count) × (count ≤ 20) × (n ≤ i) × (m ≤ i)
+    × ((chord : List ℕ) → lowest ≡ lowestOf chord → Written 0 20 (filterOf (inChordOf chord) (take i all)) at n × Written 0 20 (filterOf (isUpper chord root) (take i all)) others m)
 
 abbrev μ-loop : tie.MeasureT-loop
-μ-loop chord lowest all count at₀ n₀ i₀ at n i = count - i
+μ-loop lowest root all count at₀ n₀ others₀ m₀ i₀ at n others m i = count - i
+
+slice-aggregate-lowest-of : tie.Need-slice-aggregate-lowest-of Inv-loop μ-loop
+slice-aggregate-lowest-of c = search needs
 
 lowest-of-requires : tie.Need-lowest-of-requires Inv-loop μ-loop
 lowest-of-requires c κs = search needs
 
 loop-holds : tie.Need-loop-holds Inv-loop μ-loop
 loop-holds c =
-    let a = c .before .before .before .args in
-    (omega arith, omega arith, omega arith, chosen-none (inChordOf (a .chord .now)) (a .notes .at))
+    let a = c .before .before .before .before .args in
+    (omega arith, omega arith, omega arith, omega arith, λ chord e. (chosen-none (inChordOf chord) (a .notes .at), chosen-none (isUpper chord (a .chord .«root_pc»)) (a .notes .at)))
 
 array-read-x : tie.Need-array-read-x Inv-loop μ-loop
 array-read-x c = omega arith
@@ -42,6 +51,18 @@ cast-n c = search needs
 add-n : tie.Need-add-n Inv-loop μ-loop
 add-n c = omega (arith, bit-few (c .is-tone .result))
 
+array-write-others : tie.Need-array-write-others Inv-loop μ-loop
+array-write-others c = omega arith
+
+cast-m : tie.Need-cast-m Inv-loop μ-loop
+cast-m c = search needs
+
+add-m : tie.Need-add-m Inv-loop μ-loop
+add-m c =
+    let l = c .before .before .loop in
+    let a = c .before .before .before .before .before .before .before .args in
+    omega (arith, bit-few (c .is-tone .result && isOther (a .chord .«root_pc») (getD (a .notes .at) (l .i) 0)))
+
 add-i : tie.Need-add-i Inv-loop μ-loop
 add-i c = omega arith
 
@@ -50,28 +71,47 @@ loop-less c = omega arith
 
 loop-again : tie.Need-loop-again Inv-loop μ-loop
 loop-again c =
-    let a = c .before .before .before .before .before .before .args in
     let l = c .before .before .loop in
+    let a = c .before .before .before .before .before .before .before .args in
     let all = a .notes .at in
+    let root = a .chord .«root_pc» in
     let x = getD all (l .i) 0 in
-    let k : length all ≡ 20 = search needs in
-    let e = c .is-tone .ensures .0 ∙ ap (λ (t : List ℕ). isToneOf t x) (c .before .before .before .before .lowest-of .ensures) ∙ tone-is (a .chord .now) x (c .is-tone .ensures .1) in
-    (omega arith, omega arith, omega (arith, bit-few (c .is-tone .result)), chosen-on (inChordOf (a .chord .now)) all (l .i) (l .at) (l .n) (c .is-tone .result) (omega arith) (omega arith) e (l .inv .3))
+    let keep = c .is-tone .result in
+    let k : length all ≡ 20 = search needs in (
+      omega arith,
+      omega arith,
+      omega (arith, bit-few keep),
+      omega (arith, bit-few (keep && isOther root x)),
+      λ chord e.
+          let w = l .inv .4 chord e in
+          let f = c .is-tone .ensures .0 ∙ ap (λ (t : List ℕ). isToneOf t x) e ∙ tone-is chord x (c .is-tone .ensures .1) in (
+            chosen-on (inChordOf chord) all (l .i) (l .at) (l .n) keep (omega arith) (omega arith) f (w .0),
+            chosen-on (isUpper chord root) all (l .i) (l .others) (l .m) (keep && isOther root x) (omega arith) (omega arith) (ap (λ (b : Bool). b && isOther root x) f) (w .1),
+          ),
+    )
+
+cleared-requires : tie.Need-cleared-requires Inv-loop μ-loop
+cleared-requires c κs = search needs
+
+cleared-requires-2 : tie.Need-cleared-requires-2 Inv-loop μ-loop
+cleared-requires-2 c κs = search needs
 
 returns : tie.Need-returns Inv-loop μ-loop
 returns c =
-    let a = c .before .before .before .before .before .before .args in
-    let l = c .before .before .loop in
-    cleared-full (l .inv .3) (c .if1 .taken) ∙ chosen-all (inChordOf (a .chord .now)) (a .notes) (l .i) (l .at) (l .n) (omega arith) (l .inv .3)
-
-array-write-at-2 : tie.Need-array-write-at-2 Inv-loop μ-loop
-array-write-at-2 c = omega arith
-
-returns-2 : tie.Need-returns-2 Inv-loop μ-loop
-returns-2 c =
-    let a = c .before .before .before .before .before .before .args in
-    let l = c .before .before .loop in
-    chosen-all (inChordOf (a .chord .now)) (a .notes) (l .i) (l .at) (l .n) (omega arith) (l .inv .3)
+    let l = c .before .before .before .loop in
+    let lowest = c .before .before .before .before .before .lowest-of in
+    let a = c .before .before .before .before .before .before .before .before .args in
+    let chord = a .chord .notes in
+    let root = a .chord .«root_pc» in
+    let w = l .inv .4 chord (lowest .ensures) in
+    let e : l .i ≡ a .notes .n = omega arith in
+    rw (
+      c .cleared2 .ensures,
+      c .before .cleared .ensures,
+      chosen-all (inChordOf chord) (a .notes) (l .i) (l .at) (l .n) e (w .0),
+      chosen-all (isUpper chord root) (a .notes) (l .i) (l .others) (l .m) e (w .1),
+      filtered-both (inChordOf chord) (isOther root) (listed (a .notes)),
+    )
 
 pub chord-tones-spec : {M : Type 1} → statement M
 chord-tones-spec =
@@ -79,6 +119,7 @@ chord-tones-spec =
     (tie.spec
     Inv-loop
     μ-loop
+    slice-aggregate-lowest-of
     lowest-of-requires
     loop-holds
     array-read-x
@@ -86,9 +127,12 @@ chord-tones-spec =
     array-write-at
     cast-n
     add-n
+    array-write-others
+    cast-m
+    add-m
     add-i
     loop-less
     loop-again
-    returns
-    array-write-at-2
-    returns-2)
+    cleared-requires
+    cleared-requires-2
+    returns)

@@ -3,7 +3,7 @@ use mathlib.Core.Path.{_≡_, _∙_}
 use Prim.Native.Nat.{_+_, _-_, _≤_, _<_}
 use native.Mathlib.Omega.{arith}
 use Rattle.composer.specs.Lead.Tones.{hasClass, kept, scaleNotesIn}
-use Rattle.composer.proofs.lead.TonesLaws.{cleared-full, holds-on, tones-written}
+use Rattle.composer.proofs.lead.TonesLaws.{holds-on, tones-written}
 use Rattle.laws.proofs.Bools.{bit-few}
 use Rattle.laws.proofs.Written.{Written, written-none}
 use borrow.Author.Needs.{needs}
@@ -48,24 +48,16 @@ loop-again c =
     let b = c .has .result in
     (omega arith, omega arith, omega arith, omega arith, omega (arith, bit-few b), holds-on (hasClass (a .pool .now)) (a .lo) (l .x) (l .at) (l .n) b (omega arith) (omega arith) (c .has .ensures) (l .inv .5))
 
+cleared-requires : tie.Need-cleared-requires Inv-loop μ-loop
+cleared-requires c κs = search needs
+
 returns : tie.Need-returns Inv-loop μ-loop
 unfolding scaleNotesIn
 returns c =
     let a = c .before .before .before .before .args in
     let l = c .before .before .loop in
     let e : l .x ≡ a .hi + 1 = omega arith in
-    cleared-full (l .inv .5) (c .if1 .taken) ∙ rw (← e) (tones-written (kept (hasClass (a .pool .now)) (a .lo) (l .x - a .lo)) (l .at) (l .n) (l .inv .5))
-
-array-write-at-2 : tie.Need-array-write-at-2 Inv-loop μ-loop
-array-write-at-2 c = omega arith
-
-returns-2 : tie.Need-returns-2 Inv-loop μ-loop
-unfolding scaleNotesIn
-returns-2 c =
-    let a = c .before .before .before .before .args in
-    let l = c .before .before .loop in
-    let e : l .x ≡ a .hi + 1 = omega arith in
-    rw (← e) (tones-written (kept (hasClass (a .pool .now)) (a .lo) (l .x - a .lo)) (l .at) (l .n) (l .inv .5))
+    c .cleared .ensures ∙ rw (← e) (tones-written (kept (hasClass (a .pool .now)) (a .lo) (l .x - a .lo)) (l .at) (l .n) (l .inv .5))
 
 pub scale-notes-spec : {M : Type 1} → statement M
 scale-notes-spec =
@@ -81,6 +73,5 @@ scale-notes-spec =
     add-x
     loop-less
     loop-again
-    returns
-    array-write-at-2
-    returns-2)
+    cleared-requires
+    returns)
