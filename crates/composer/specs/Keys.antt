@@ -40,6 +40,10 @@ findOf root a b (note ∷ notes) = cond (soundsOf root a b note) note (findOf ro
 unfoldable pub shellOf : Chord → Shell
 shellOf c = record { third = findOf (c .«root_pc») 3 4 (c .notes); seventh = findOf (c .«root_pc») 10 11 (c .notes) }
 
+-- the shell of a chord of the grammar, by the notes' places
+abbrev pub placedShell : Chord → Shell
+placedShell c = record { third = getD (c .notes) 1 0; seventh = getD (c .notes) 3 0 }
+
 -- the seventh, or the ninth above it
 abbrev pub upperOf : Bool → ℕ → ℕ → ℕ
 upperOf ninth seventh root = cond ninth (inOctaveFrom seventh ((root + 2) % 12)) seventh

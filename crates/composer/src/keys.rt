@@ -2,7 +2,7 @@
 ghost use mathlib.Core.Path.{_≡_};
 ghost use Prim.Native.Nat.{_≤_, _<_};
 ghost use Rattle.composer.specs.Harmony.{Tonal};
-ghost use Rattle.composer.specs.Keys.{soundsOf, findOf, shellOf, upperOf, densityDrawOf, gridAt, dyadOf, toneOf, keysOf};
+ghost use Rattle.composer.specs.Keys.{shellOf, placedShell, upperOf, densityDrawOf, gridAt, dyadOf, toneOf, keysOf};
 use crate::chord::Chord;
 use crate::chord::OCTAVE;
 use crate::chord::in_octave_from;
@@ -21,15 +21,6 @@ use crate::timing::swing_delay;
 use streams::draw::chance;
 use streams::draw::pick;
 use streams::stream::NoiseStream;
-
-// Intervals above a root, in semitones.
-const MINOR_THIRD: u8 = 3;
-
-const MAJOR_THIRD: u8 = 4;
-
-const MINOR_SEVENTH: u8 = 10;
-
-const MAJOR_SEVENTH: u8 = 11;
 
 // A ninth's pitch class above the root's: a whole tone.
 const NINTH: u8 = 2;
@@ -80,41 +71,15 @@ pub struct Tone {
     pub stream: NoiseStream,
 }
 
-// Whether a note's class lies a or b above the root's.
-fn sounds(note: u8, root_pc: u8, a: u8, b: u8) -> bool
-    requires { ⌜ («root_pc» < 12) × (a < 12) × (b < 12) ⌝ }
-    ensures { λ r. ⌜ r ≡ soundsOf «root_pc» a b note ⌝ }
-{
-    (note % OCTAVE == (root_pc + a) % OCTAVE) | (note % OCTAVE == (root_pc + b) % OCTAVE)
-}
-
-// The first note whose class lies a or b above the root's, 0 where none does.
-fn find(notes: [u8; 4], root_pc: u8, a: u8, b: u8) -> u8
-    requires { ⌜ («root_pc» < 12) × (a < 12) × (b < 12) ⌝ }
-    ensures { λ r. ⌜ r ≡ findOf «root_pc» a b notes ⌝ }
-{
-    let mut i: usize = 0;
-    while i < 4 {
-        let note = notes[i];
-        if sounds(note, root_pc, a, b) {
-            return note;
-        }
-        i += 1;
-    }
-    0
-}
-
-// The chord's shell, found from its root.
+// The chord's shell: where a chord is root, third, fifth and seventh, they are found in these places.
 fn shell_of(chord: Chord) -> Shell
-    requires { ⌜ chord .«root_pc» < 12 ⌝ }
+    requires { ⌜ shellOf chord ≡ placedShell chord ⌝ }
     ensures { λ r. ⌜ r ≡ shellOf chord ⌝ }
 {
     let notes = chord.notes;
-    let third = find(notes, chord.root_pc, MINOR_THIRD, MAJOR_THIRD);
-    let seventh = find(notes, chord.root_pc, MINOR_SEVENTH, MAJOR_SEVENTH);
     Shell {
-        third: third,
-        seventh: seventh,
+        third: notes[1],
+        seventh: notes[3],
     }
 }
 

@@ -1,4 +1,4 @@
--- The first note found, as the loop finds it, and the shell of a chord in a key. Assumes nothing.
+-- The shell of a chord in a key. Assumes nothing.
 use mathlib.Core.Path.{_≡_, sym, subst}
 use mathlib.Core.Bool.{Bool, true, false, cond, _&&_}
 use mathlib.Core.List.{List, [], _∷_}
@@ -12,24 +12,10 @@ use mir.Facts.{and-yes}
 use Rattle.laws.proofs.Runs.{every, every-at}
 use Rattle.composer.specs.Chord.{degreeAt, pastChord, voicedOf}
 use Rattle.composer.specs.Harmony.{Tonal}
-use Rattle.composer.specs.Keys.{soundsOf, findOf, shellOf}
+use Rattle.composer.specs.Keys.{soundsOf, findOf, shellOf, placedShell}
 use Rattle.composer.specs.declared.chord.Chord.{Chord}
 use Rattle.composer.specs.declared.harmony.Harmony.{Harmony}
 use Rattle.composer.proofs.ChordLaws.{degree-small}
-
--- ---- the loop
-module _ (root a b : ℕ) (notes : List ℕ) (i : ℕ) where
-  pub find-hit : i < length notes → soundsOf root a b (getD notes i 0) ≡ true → findOf root a b (drop i notes) ≡ getD notes i 0
-  unfolding findOf
-  find-hit h e = rw (drop-cons notes i 0 h, e)
-
-  pub find-miss : i < length notes → soundsOf root a b (getD notes i 0) ≡ false → findOf root a b (drop i notes) ≡ findOf root a b (drop (i + 1) notes)
-  unfolding findOf
-  find-miss h e = rw (drop-cons notes i 0 h, e, add-one i)
-
-  pub find-none : i ≡ length notes → findOf root a b (drop i notes) ≡ 0
-  unfolding findOf
-  find-none e = rw (e, drop-length notes)
 
 -- ---- what is found is a note, or 0
 chosen-le : (t : Bool) (x y top : ℕ) → x ≤ top → y ≤ top → cond t x y ≤ top
@@ -94,10 +80,9 @@ module _ (h : Harmony) (t : Tonal h) (k : ℕ) (l : k < 8) where
       subst (λ (c : Chord). T (thirdSecond c) × T (seventhLast c)) (sym (t .bar k l))
       (voiced-shell (t .degree k) (t .key) (t .degree-lt k) (t .key-lt))
 
-  -- the third is the second note of the bar's chord
-  pub tonal-third : shellOf (getD (h .bars) k pastChord) .third ≡ getD (getD (h .bars) k pastChord .notes) 1 0
-  tonal-third = eqb→eq (shellOf (getD (h .bars) k pastChord) .third) (getD (getD (h .bars) k pastChord .notes) 1 0) (shelled .0)
-
-  -- the seventh is the last
-  pub tonal-seventh : shellOf (getD (h .bars) k pastChord) .seventh ≡ getD (getD (h .bars) k pastChord .notes) 3 0
-  tonal-seventh = eqb→eq (shellOf (getD (h .bars) k pastChord) .seventh) (getD (getD (h .bars) k pastChord .notes) 3 0) (shelled .1)
+  -- the shell is the second note of the bar's chord and the last
+  pub tonal-shell : shellOf (getD (h .bars) k pastChord) ≡ placedShell (getD (h .bars) k pastChord)
+  unfolding shellOf
+  tonal-shell =
+      let c = getD (h .bars) k pastChord in
+      rw (eqb→eq (shellOf c .third) (getD (c .notes) 1 0) (shelled .0), eqb→eq (shellOf c .seventh) (getD (c .notes) 3 0) (shelled .1))

@@ -9,7 +9,7 @@ use Rattle.composer.specs.Chord.{pastChord}
 use Rattle.composer.specs.Keys.{barTo, barOf, barsTo, keysOf}
 use Rattle.composer.specs.declared.chord.Chord.{Chord}
 use Rattle.composer.specs.declared.keys.KeysLane.{KeysLane}
-use Rattle.composer.proofs.keys.ShellLaws.{seventh-le, tonal-reachable}
+use Rattle.composer.proofs.keys.ShellLaws.{seventh-le, tonal-reachable, tonal-shell}
 use Rattle.composer.proofs.keys.StrokeLaws.{laneOf, eighth-rest, eighth-shell, eighth-single}
 use borrow.Author.Needs.{needs}
 use borrow.Author.Tests.{not-true, not-false}
@@ -67,7 +67,7 @@ shell-of-requires : tie.Need-shell-of-requires Inv-loop2 μ-loop2 Inv-loop μ-lo
 shell-of-requires c κs =
     let l = c .before .before in
     let d = l .before .before .before .before in
-    tonal-reachable (d .args .t2) (d .pre) (l .loop .b) (omega arith) .root-lt
+    tonal-shell (d .args .t2) (d .pre) (l .loop .b) (omega arith)
 
 loop2-holds : tie.Need-loop2-holds Inv-loop2 μ-loop2 Inv-loop μ-loop
 unfolding barTo
