@@ -16,16 +16,16 @@ abbrev pub zero32 : Float
 zero32 = ofBits binary32 0
 
 abbrev pub noNote : Note
-noNote = record { bar = 0; at = zero32; midi = 0; vel = zero32; dur = zero32 }
+noNote = record { bar = 0; spare = 0; at = zero32; midi = 0; vel = zero32; dur = zero32 }
 
 abbrev pub pastNote : Note
-pastNote = record { bar = 0; at = nan; midi = 0; vel = nan; dur = nan }
+pastNote = record { bar = 0; spare = 0; at = nan; midi = 0; vel = nan; dur = nan }
 
 abbrev pub noHit : Hit
-noHit = record { bar = 0; at = zero32; kind = DrumKind.Kick; gain = zero32 }
+noHit = record { bar = 0; spare = 0; at = zero32; kind = DrumKind.Kick; gain = zero32 }
 
 abbrev pub pastHit : Hit
-pastHit = record { bar = 0; at = nan; kind = DrumKind.Kick; gain = nan }
+pastHit = record { bar = 0; spare = 0; at = nan; kind = DrumKind.Kick; gain = nan }
 
 abbrev pub noteBar : Note → ℕ
 noteBar x = x .bar

@@ -133,6 +133,7 @@ fn dyad_at(s: NoiseStream, shell: Shell, root_pc: u8, k: KeysStyle, bar: u8, at:
     let rolled = ROLL.after(at, vel.stream);
     let lower = Note {
         bar: bar,
+        spare: 0,
         at: at,
         midi: shell.third,
         vel: vel.value,
@@ -140,6 +141,7 @@ fn dyad_at(s: NoiseStream, shell: Shell, root_pc: u8, k: KeysStyle, bar: u8, at:
     };
     let higher = Note {
         bar: bar,
+        spare: 0,
         at: rolled.value,
         midi: high,
         vel: vel.value * ROLLED_SOFTER,
@@ -163,6 +165,7 @@ fn tone_at(s: NoiseStream, chord: Chord, k: KeysStyle, bar: u8, at: f32) -> Tone
     let vel = k.velocity.draw(p.stream);
     let note = Note {
         bar: bar,
+        spare: 0,
         at: at,
         midi: midi,
         vel: vel.value,

@@ -3,10 +3,12 @@ ghost use mathlib.Core.Path.{_≡_};
 ghost use Rattle.composer.specs.Note.{kindNumberOf};
 
 // Its pitch (MIDI), its time, in seconds into the loop, its velocity, and how long it is held, in seconds. The
-// bytes stand together, here and in `Hit`, so that an entry of a lane is small.
+// bytes stand together, here and in `Hit`, so that an entry of a lane is small, and `spare`, which is always 0, fills
+// the gap behind them: an array of entries without gaps is cleared at one stroke.
 pub struct Note {
     pub bar: u8,
     pub midi: u8,
+    pub spare: u16,
     pub at: f32,
     pub vel: f32,
     pub dur: f32,
@@ -36,6 +38,7 @@ impl DrumKind {
 pub struct Hit {
     pub bar: u8,
     pub kind: DrumKind,
+    pub spare: u16,
     pub at: f32,
     pub gain: f32,
 }
@@ -43,6 +46,7 @@ pub struct Hit {
 // An unused entry of a lane.
 pub const NO_NOTE: Note = Note {
     bar: 0,
+    spare: 0,
     at: 0.0,
     midi: 0,
     vel: 0.0,
@@ -51,6 +55,7 @@ pub const NO_NOTE: Note = Note {
 
 pub const NO_HIT: Hit = Hit {
     bar: 0,
+    spare: 0,
     at: 0.0,
     kind: DrumKind::Kick,
     gain: 0.0,

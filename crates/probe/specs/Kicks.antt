@@ -32,6 +32,7 @@ kindBy n = getD kinds n DrumKind.Kick
 unfoldable pub hitBy : List ℕ → ℕ → Hit
 hitBy words i = record {
   bar = 0;
+  spare = 0;
   at = ofBits binary32 (getD words (2 * i + 1) 0 % 2 ^ 32);
   kind = kindBy (getD words (2 * i + 2) 0);
   gain = zero32;

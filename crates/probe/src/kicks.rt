@@ -94,6 +94,7 @@ fn hit_by(words: &[u64], i: usize) -> Hit
     let kind = kind_by(number);
     Hit {
         bar: 0,
+        spare: 0,
         at: at,
         kind: kind,
         gain: 0.0,

@@ -61,7 +61,7 @@ module _ (p : BarPart) (playable : Playable p) (style : BassStyle) where
   play-grown l beatS i room =
       let on = onsetOf beatS (p .bar) (getD (p .steps .at) i 0) in
       let d = noteDrawnOf (l .stream) on p style i in
-      grown-push pastNote (NoteOf p) (l .notes) (l .count) (record { bar = p .bar; at = d .at; midi = d .midi; vel = d .vel; dur = heldOf beatS (gapOf p i) (d .at) }) room
+      grown-push pastNote (NoteOf p) (l .notes) (l .count) (record { bar = p .bar; spare = 0; at = d .at; midi = d .midi; vel = d .vel; dur = heldOf beatS (gapOf p i) (d .at) }) room
       (refl, note-sounds (l .stream) on i)
 
 module _ (l : BassLane) (p : BarPart) (style : BassStyle) (beatS : Float) where

@@ -234,6 +234,7 @@ module _ (n : ℕ) (tempo : (70 ≤ n) × (n ≤ 82)) where
       note-plain : (s : NoiseStream) (i : ℕ) → i < p .steps .n → (midi : ℕ)
           → PlainNote (record {
             bar = p .bar;
+            spare = 0;
             at = noteDrawnOf s (onsetOf beatS (p .bar) (getD (p .steps .at) i 0)) p style i .at;
             midi = midi;
             vel = noteDrawnOf s (onsetOf beatS (p .bar) (getD (p .steps .at) i 0)) p style i .vel;

@@ -86,8 +86,8 @@ module _ (k : KeysStyle) (isFair : T (fair k)) where
         let ninth = chanceOf (l .stream) ninthP in
         let vel = drawOf (k .velocity) (ninth .stream) in
         let rolled = afterOf roll at (vel .stream) in
-        let lower : Note = record { bar = bar; at = at; midi = shellOf c .third; vel = vel .value; dur = k .dur } in
-        let higher : Note = record { bar = bar; at = rolled .value; midi = upperOf (ninth .value) (shellOf c .seventh) (c .«root_pc»); vel = mul binary32 (vel .value) rolledSofter; dur = k .dur } in
+        let lower : Note = record { bar = bar; spare = 0; at = at; midi = shellOf c .third; vel = vel .value; dur = k .dur } in
+        let higher : Note = record { bar = bar; spare = 0; at = rolled .value; midi = upperOf (ninth .value) (shellOf c .seventh) (c .«root_pc»); vel = mul binary32 (vel .value) rolledSofter; dur = k .dur } in
         push-full (pushOf l lower) higher (record { at = rolled-in (vel .stream) at i; vel = softer-in (vel .value) (velocity-in (ninth .stream)); dur = dur-in })
         (push-full l lower (record { at = time-in at i; vel = loud-in (vel .value) (velocity-in (ninth .stream)); dur = dur-in }) f)
 
@@ -96,7 +96,7 @@ module _ (k : KeysStyle) (isFair : T (fair k)) where
     single-full =
         let p = pickOf (l .stream) 4 in
         let vel = drawOf (k .velocity) (p .stream) in
-        push-full l (record { bar = bar; at = at; midi = getD (c .notes) (p .value) 0; vel = vel .value; dur = k .dur })
+        push-full l (record { bar = bar; spare = 0; at = at; midi = getD (c .notes) (p .value) 0; vel = vel .value; dur = k .dur })
         (record { at = time-in at i; vel = loud-in (vel .value) (velocity-in (p .stream)); dur = dur-in })
         f
 

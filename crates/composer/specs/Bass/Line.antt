@@ -111,7 +111,7 @@ unfoldable pub playedNoteOf : NoiseStream → BarPart → BassStyle → Float �
 playedNoteOf s p style beatS i =
     let d = noteDrawnOf s (onsetOf beatS (p .bar) (getD (p .steps .at) i 0)) p style i in
     record {
-      note = record { bar = p .bar; at = d .at; midi = d .midi; vel = d .vel; dur = heldOf beatS (gapOf p i) (d .at) };
+      note = record { bar = p .bar; spare = 0; at = d .at; midi = d .midi; vel = d .vel; dur = heldOf beatS (gapOf p i) (d .at) };
       stream = d .stream;
     }
 

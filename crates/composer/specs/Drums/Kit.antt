@@ -66,6 +66,7 @@ kickHitOf s bar dragS k =
     record {
       hit = record {
         bar = bar .number;
+        spare = 0;
         at = heldAtZero (add binary32 slot (j .value));
         kind = DrumKind.Kick;
         gain = mul binary32 (mul binary32 (k .gain) (bar .wobble)) (a .value);
@@ -106,6 +107,7 @@ snareHitOf s bar beat gain =
     record {
       hit = record {
         bar = bar .number;
+        spare = 0;
         at = heldAtZero (add binary32 (add binary32 (barAt bar beat) snareDragS) (j .value));
         kind = DrumKind.Snare;
         gain = mul binary32 (mul binary32 gain (bar .wobble)) (a .value);
@@ -146,6 +148,7 @@ hatHitOf s g bar e =
     record {
       hit = record {
         bar = bar .number;
+        spare = 0;
         at = heldAtZero (add binary32 (hatSlotOf bar (g .hats .swing) e) (j .value));
         kind = hatKindOf (g .«open_hat») bar e;
         gain = mul binary32 (v .value) (bar .wobble);

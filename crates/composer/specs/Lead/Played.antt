@@ -30,7 +30,7 @@ unfoldable pub playedNoteOf : LeadNote → Float → Float → NoiseStream → P
 playedNoteOf x beatS dur s =
     let d = afterOf leadLag (onGridOf x beatS) s in
     let e = drawOf leadAccent (d .stream) in
-    record { note = record { bar = x .bar; at = d .value; midi = x .note; vel = mul binary32 (x .vel) (e .value); dur = dur }; stream = e .stream }
+    record { note = record { bar = x .bar; spare = 0; at = d .value; midi = x .note; vel = mul binary32 (x .vel) (e .value); dur = dur }; stream = e .stream }
 
 -- one note more
 unfoldable pub playOf : Sung → Float → Float → LeadLane → ℕ → LeadLane

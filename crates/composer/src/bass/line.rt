@@ -233,6 +233,7 @@ pub(crate) fn played_note(
     let dur = held(beat_s, g, d.at);
     let note = Note {
         bar: p.bar,
+        spare: 0,
         at: d.at,
         midi: d.midi,
         vel: d.vel,

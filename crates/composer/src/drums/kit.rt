@@ -122,6 +122,7 @@ pub(crate) fn kick_hit(s: NoiseStream, bar: Bar, drag_s: f32, k: Kick) -> Struck
     let a = HIT_ACCENT.draw(j.stream);
     let hit = Hit {
         bar: bar.number,
+        spare: 0,
         at: at,
         kind: DrumKind::Kick,
         gain: k.gain * bar.wobble * a.value,
@@ -142,6 +143,7 @@ pub(crate) fn snare_hit(s: NoiseStream, bar: Bar, beat: f32, gain: f32) -> Struc
     let a = HIT_ACCENT.draw(j.stream);
     let hit = Hit {
         bar: bar.number,
+        spare: 0,
         at: at,
         kind: DrumKind::Snare,
         gain: gain * bar.wobble * a.value,
@@ -188,6 +190,7 @@ pub(crate) fn hat_hit(s: NoiseStream, g: Groove, bar: Bar, e: u8) -> Struck
     let v = velocity.draw(j.stream);
     let hit = Hit {
         bar: bar.number,
+        spare: 0,
         at: at,
         kind: kind,
         gain: v.value * bar.wobble,

@@ -49,6 +49,7 @@ fn play(x: LeadNote, beat_s: f32, dur: f32, s: NoiseStream) -> PlayedNote
     let se = e.stream;
     let note = Note {
         bar: x.bar,
+        spare: 0,
         at: d.value,
         midi: x.note,
         vel: x.vel * e.value,
