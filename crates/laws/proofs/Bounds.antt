@@ -115,7 +115,7 @@ opened : (f : Format) (m : ℕ) (e : ℤ) (n : ℕ) (d : ℤ) → sub f (fin fal
 unfolding sub
 opened f m e n d = refl
 
-sub-is : (f : Format) (x y : Float) → T (nonneg x) → T (nonneg y) → T (le y x) → sub f x y ≡ round f false (num x * den y - num y * den x) (den x * den y)
+pub sub-is : (f : Format) (x y : Float) → T (nonneg x) → T (nonneg y) → T (le y x) → sub f x y ≡ round f false (num x * den y - num y * den x) (den x * den y)
 sub-is f nan y p q h = absurd p
 sub-is f (inf s) y p q h = absurd p
 sub-is f (fin true m e) y p q h = absurd p
@@ -134,7 +134,7 @@ cross-add a p b q a' p' b' q' h k =
 less : (a b c d : ℕ) → a ≤ c → d ≤ b → a - b ≤ c - d
 less a b c d h k = omega arith
 
-sub-mul : (a b k : ℕ) → (a - b) * k ≡ a * k - b * k
+pub sub-mul : (a b k : ℕ) → (a - b) * k ≡ a * k - b * k
 sub-mul a b k = mul-comm (a - b) k ∙ mul-sub k a b ∙ ap (λ (z : ℕ). z - k * b) (mul-comm k a) ∙ ap (λ (z : ℕ). a * k - z) (mul-comm k b)
 
 cross-sub : (a p b q a' p' b' q' : ℕ) → a * p' ≤ a' * p → b' * q ≤ b * q' → (a * q - b * p) * (p' * q') ≤ (a' * q' - b' * p') * (p * q)

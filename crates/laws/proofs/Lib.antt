@@ -17,5 +17,6 @@ pub mod Sizes
 pub mod Sorts
 pub mod Splices
 pub mod Truncation
+pub mod Whole
 pub mod Writes
 pub mod Written

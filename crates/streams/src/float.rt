@@ -1,10 +1,21 @@
-// Casts of an f32 that answer for every value, NaN and the infinities included.
+// Casts of an f32 that answer for every value, NaN and the infinities included, and the whole part of one below 2^23.
 ghost use mathlib.Core.Path.{_≡_};
-ghost use lib.Ieee.{binary32, toBits, toUnsigned};
+ghost use mathlib.Core.Bool.{true};
+ghost use lib.Ieee.{binary32, le, lt, ofBits, toBits, toUnsigned};
+ghost use Rattle.laws.specs.Floats.{f32Of};
 
-// x without its fraction, as the Rust's `as` has it: 0 below zero and at a NaN, the largest u64
-// where x is too large for one.
-pub fn truncated(x: f32) -> u64
+// x without its fraction, as a float. From 2^23 on an f32 has no room for a fraction, so x + 2^23 is
+// rounded to a whole number; where that is above x, x's own is one less.
+pub fn whole(x: f32) -> f32
+    requires { ⌜ (le (ofBits binary32 0) x ≡ true) × (lt x (ofBits binary32 0x4b00_0000) ≡ true) ⌝ }
+    ensures { λ r. ⌜ r ≡ f32Of (toUnsigned 64 x) ⌝ }
+{
+    let near = (x + 8388608.0) - 8388608.0;
+    if near > x { near - 1.0 } else { near }
+}
+
+// x without its fraction, by the library, for every x.
+fn truncated_any(x: f32) -> u64
     ensures { λ r. ⌜ r ≡ toUnsigned 64 x ⌝ }
 {
     if x > -1.0 {
@@ -15,6 +26,19 @@ pub fn truncated(x: f32) -> u64
         }
     } else {
         0
+    }
+}
+
+// x without its fraction, as the Rust's `as` has it: 0 below zero and at a NaN, the largest u64
+// where x is too large for one. From 0 up to 2^23 by `whole`, which has no shifts.
+pub fn truncated(x: f32) -> u64
+    ensures { λ r. ⌜ r ≡ toUnsigned 64 x ⌝ }
+{
+    if x >= 0.0 && x < 8388608.0 {
+        let w = whole(x);
+        (w as u32) as u64
+    } else {
+        truncated_any(x)
     }
 }
 

@@ -1,26 +1,43 @@
--- Between the ends the library truncates; beyond them `truncates-low` and `truncates-high` say what is left. Assumes nothing.
-use mathlib.Core.Path.{sym, subst}
-use lib.Dec.{T}
-use lib.Ieee.{ofBits, neg}
-use Rattle.laws.proofs.Truncation.{truncates-low, truncates-high}
+-- From 0 to 2^23 the whole part is a float, whose cast loses nothing (`whole-cast`); other values are left to `truncated_any`. Assumes nothing.
+use mathlib.Core.Path.{_≡_}
+use native.Mathlib.Omega.{arith}
 use borrow.Author.Needs.{needs}
+use lib.Dec.{T}
+use lib.Ieee.{binary32, toUnsigned, inUnsigned}
+use lib.Ieee.Casts.{toUnsigned-lt}
+use Rattle.laws.proofs.Whole.{whole-cast}
 use Rattle.streams.proofs.float.truncated.Statement.{statement}
 use Rattle.streams.proofs.float.truncated.Tie as tie
 
-truncating-f32-to-u64-requires : tie.Need-truncating-f32-to-u64-requires
-unfolding ofBits neg
-truncating-f32-to-u64-requires c κs = (subst T (sym (c .before .if1 .taken)) tt, subst T (sym (c .if2 .taken)) tt)
+-- the whole part, as an integer
+cast : (a : tie.After-whole) → T (inUnsigned binary32 32 (a .whole .result)) × (toUnsigned 32 (a .whole .result) ≡ toUnsigned 64 (a .before .before .before .args .x))
+cast a = whole-cast (a .before .before .before .args .x) (a .whole .result) (a .before .if2 .taken) (a .whole .ensures)
+
+whole-requires : tie.Need-whole-requires
+whole-requires c κs = search needs
+
+float-to-int-result : tie.Need-float-to-int-result
+float-to-int-result c = cast (c .before) .0
+
+cast-result : tie.Need-cast-result
+cast-result c = omega (arith, toUnsigned-lt 32 (c .before .whole .result))
+
+truncated-any-requires : tie.Need-truncated-any-requires
+truncated-any-requires c κs = search needs
 
 returns : tie.Need-returns
-returns c = search needs
+returns c = cast (c .before) .1
 
 returns-2 : tie.Need-returns-2
-unfolding ofBits neg
-returns-2 c = sym (truncates-high (c .before .before .args .x) (c .before .if1 .taken) (c .if2 .left))
-
-returns-3 : tie.Need-returns-3
-unfolding ofBits neg
-returns-3 c = sym (truncates-low (c .before .args .x) (c .if1 .left))
+returns-2 c = search needs
 
 pub truncated-spec : {M : Type 1} → statement M
-truncated-spec = tie.close (tie.spec truncating-f32-to-u64-requires returns returns-2 returns-3)
+truncated-spec =
+    tie.close
+    (tie.spec
+    whole-requires
+    float-to-int-result
+    cast-result
+    truncated-any-requires
+    returns
+    returns-2)
