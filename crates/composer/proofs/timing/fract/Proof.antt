@@ -1,34 +1,36 @@
--- The test is the definition’s, and below 2^24 the truncated value is an f32. Assumes nothing.
-use mathlib.Core.Path.{sym, subst}
-use Prim.Native.Nat.{ℕ, _^_, _≤_}
-use lib.Dec.{T}
-use lib.Ieee.{Float, binary32, ofBits, lt, toUnsigned}
-use Rattle.laws.proofs.Exact.{exact}
-use Rattle.laws.proofs.Bounds.{cut-under}
-use Rattle.composer.specs.Timing.{fractOf}
+-- From 0 to 2^23 the definition's test holds, and `whole` has the truncated value; other beats are left to `fract_any`. Assumes nothing.
+use mathlib.Core.Path.{_≡_}
+use mathlib.Core.Bool.{true, false}
+use Prim.Native.Nat.{_+_, _*_, _^_}
+use native.Mathlib.Omega.{arith}
 use borrow.Author.Needs.{needs}
+use borrow.Author.Tests.{ltb-true, lt-ltb}
+use lib.Ieee.{Float, nan, inf, fin, binary32, ofBits, lt, up, down}
+use lib.Ieee.Fits.{down-pos}
+use Rattle.composer.specs.Timing.{fractOf}
 use Rattle.composer.proofs.timing.fract.Statement.{statement}
 use Rattle.composer.proofs.timing.fract.Tie as tie
 
-small : (x : Float) → T (lt x (ofBits binary32 0x4b80_0000)) → toUnsigned 64 x ≤ 2 ^ 24
-unfolding ofBits toUnsigned
-small x h = cut-under 64 x (ofBits binary32 0x4b80_0000) tt h
+-- what is below 2^23 is below 2^24
+below : (x : Float) → lt x (ofBits binary32 0x4b00_0000) ≡ true → lt x (ofBits binary32 0x4b80_0000) ≡ true
+unfolding lt ofBits
+below nan h = h
+below (inf s) h = h
+below (fin true m e) h = lt-ltb 0 (m * up e * 1 + 2 ^ 24 * down e) (omega (arith, down-pos e))
+below (fin false m e) h = lt-ltb (m * up e * 1) (2 ^ 24 * down e) (omega (arith, ltb-true (m * up e * 1) (2 ^ 23 * down e) h))
 
-truncated-requires : tie.Need-truncated-requires
-truncated-requires c κs = search needs
+whole-requires : tie.Need-whole-requires
+whole-requires c κs = search needs
 
-int-to-float-result : tie.Need-int-to-float-result
-int-to-float-result c =
-    let t = c .before .truncated in
-    exact (t .result) (subst (λ (n : ℕ). n ≤ 2 ^ 24) (sym (t .ensures)) (small (c .before .before .before .args .x) (subst T (sym (c .before .before .if1 .taken)) tt)))
+fract-any-requires : tie.Need-fract-any-requires
+fract-any-requires c κs = search needs
 
 returns : tie.Need-returns
 unfolding fractOf
-returns c = rw (c .before .before .if1 .taken, c .before .truncated .ensures)
+returns c = rw (below (c .before .before .before .args .x) (c .before .if2 .taken), c .whole .ensures)
 
 returns-2 : tie.Need-returns-2
-unfolding fractOf
-returns-2 c = rw (c .if1 .left)
+returns-2 c = search needs
 
 pub fract-spec : {M : Type 1} → statement M
-fract-spec = tie.close (tie.spec truncated-requires int-to-float-result returns returns-2)
+fract-spec = tie.close (tie.spec whole-requires fract-any-requires returns returns-2)
