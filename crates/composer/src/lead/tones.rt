@@ -2,7 +2,7 @@
 ghost use mathlib.Core.Path.{_≡_};
 ghost use Prim.Native.Nat.{_+_, _≤_, _<_, min};
 ghost use lib.ListN.{length};
-ghost use Rattle.composer.specs.Lead.Tones.{lowestOf, isToneOf, clearedOf, scaleNotesOf, chordTonesOf, strongOf, distanceOf, rankOf, nearestOf, nearOf};
+ghost use Rattle.composer.specs.Lead.Tones.{lowestOf, clearedOf, scaleNotesOf, chordTonesOf, strongOf, distanceOf, rankOf, nearestOf, nearOf};
 use crate::chord::Chord;
 use crate::chord::OCTAVE;
 use crate::lead::scale::has;
@@ -44,25 +44,23 @@ fn lowest_of(chord: &[u8]) -> [u16; 12]
     lowest
 }
 
-// Whether x is a chord's note, or whole octaves above one: not below the lowest of its class. It is a byte, so below 256.
-fn is_tone(lowest: [u16; 12], x: u8) -> bool
-    ensures { λ r. ⌜ r ≡ isToneOf lowest x ⌝ }
-    ensures { λ r. ⌜ x < 256 ⌝ }
+// A note as a wider number: it is a byte, so below 256.
+fn wide(x: u8) -> u16
+    ensures { λ r. ⌜ r ≡ x ⌝ }
+    ensures { λ r. ⌜ r < 256 ⌝ }
 {
-    let class = (x % OCTAVE) as usize;
-    lowest[class] <= x as u16
+    x as u16
 }
 
 // The first n, with 0 behind them: what was written last may not have been kept.
 fn cleared(at: [u8; 20], n: usize) -> Tones
     ensures { λ r. ⌜ r ≡ clearedOf at n ⌝ }
 {
+    let mut out = at;
     if n < 20 {
-        let mut out = at;
         out[n] = 0;
-        return Tones { at: out, n: n };
     }
-    Tones { at: at, n: n }
+    Tones { at: out, n: n }
 }
 
 // The scale's notes from lo to hi.
@@ -99,8 +97,10 @@ pub(crate) fn chord_tones(notes: Tones, chord: Chord) -> ChordTones
     let mut m: usize = 0;
     for i in 0..count {
         let x = all[i];
-        let keep = is_tone(lowest, x);
-        let other = keep & (x % OCTAVE != root);
+        let class = x % OCTAVE;
+        // a chord's note, or whole octaves above one: not below the lowest of its class
+        let keep = lowest[class as usize] <= wide(x);
+        let other = keep & (class != root);
         at[n] = x;
         n += keep as usize;
         others[m] = x;

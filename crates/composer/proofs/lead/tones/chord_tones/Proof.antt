@@ -2,8 +2,9 @@
 use mathlib.Core.Path.{_≡_, ap, _∙_}
 use mathlib.Core.Bool.{Bool, _&&_}
 use mathlib.Core.List.{List}
-use Prim.Native.Nat.{ℕ, _-_, _≤_}
+use Prim.Native.Nat.{ℕ, _-_, _%_, _≤_, _<_}
 use native.Mathlib.Omega.{arith}
+use lib.Dec.{leb}
 use lib.ListN.{length, getD, take}
 use Rattle.laws.specs.Lists.{filterOf}
 use Rattle.composer.specs.Lead.Tones.{inChordOf, isOther, lowestOf, isToneOf, listed}
@@ -25,6 +26,13 @@ Inv-loop lowest root all count at₀ n₀ others₀ m₀ i₀ at n others m i =
 abbrev μ-loop : tie.MeasureT-loop
 μ-loop lowest root all count at₀ n₀ others₀ m₀ i₀ at n others m i = count - i
 
+-- the note of a turn, and whether it is kept, as the code has them
+abbrev noteIn : tie.After-wide Inv-loop μ-loop → ℕ
+noteIn c = getD (c .before .before .before .before .before .before .before .args .notes .at) (c .before .before .loop .i) 0
+
+abbrev keeps : tie.After-wide Inv-loop μ-loop → Bool
+keeps c = leb (getD (c .before .before .before .before .lowest-of .result) (noteIn c % 12) 0) (c .wide .result)
+
 slice-aggregate-lowest-of : tie.Need-slice-aggregate-lowest-of Inv-loop μ-loop
 slice-aggregate-lowest-of c = search needs
 
@@ -39,8 +47,17 @@ loop-holds c =
 array-read-x : tie.Need-array-read-x Inv-loop μ-loop
 array-read-x c = omega arith
 
-is-tone-requires : tie.Need-is-tone-requires Inv-loop μ-loop
-is-tone-requires c κs = search needs
+cast-keep : tie.Need-cast-keep Inv-loop μ-loop
+cast-keep c = search needs
+
+mul-keep : tie.Need-mul-keep Inv-loop μ-loop
+mul-keep c = omega arith
+
+array-read-keep : tie.Need-array-read-keep Inv-loop μ-loop
+array-read-keep c = omega arith
+
+wide-requires : tie.Need-wide-requires Inv-loop μ-loop
+wide-requires c κs = search needs
 
 array-write-at : tie.Need-array-write-at Inv-loop μ-loop
 array-write-at c = omega arith
@@ -49,7 +66,7 @@ cast-n : tie.Need-cast-n Inv-loop μ-loop
 cast-n c = search needs
 
 add-n : tie.Need-add-n Inv-loop μ-loop
-add-n c = omega (arith, bit-few (c .is-tone .result))
+add-n c = omega (arith, bit-few (keeps c))
 
 array-write-others : tie.Need-array-write-others Inv-loop μ-loop
 array-write-others c = omega arith
@@ -59,9 +76,8 @@ cast-m c = search needs
 
 add-m : tie.Need-add-m Inv-loop μ-loop
 add-m c =
-    let l = c .before .before .loop in
     let a = c .before .before .before .before .before .before .before .args in
-    omega (arith, bit-few (c .is-tone .result && isOther (a .chord .«root_pc») (getD (a .notes .at) (l .i) 0)))
+    omega (arith, bit-few (keeps c && isOther (a .chord .«root_pc») (noteIn c)))
 
 add-i : tie.Need-add-i Inv-loop μ-loop
 add-i c = omega arith
@@ -75,18 +91,20 @@ loop-again c =
     let a = c .before .before .before .before .before .before .before .args in
     let all = a .notes .at in
     let root = a .chord .«root_pc» in
-    let x = getD all (l .i) 0 in
-    let keep = c .is-tone .result in
-    let k : length all ≡ 20 = search needs in (
+    let x = noteIn c in
+    let keep = keeps c in
+    let k : length all ≡ 20 = search needs in
+    let w = c .wide .ensures in
+    let x-lt : x < 256 = omega (arith, w .0, w .1) in (
       omega arith,
       omega arith,
       omega (arith, bit-few keep),
       omega (arith, bit-few (keep && isOther root x)),
       λ chord e.
-          let w = l .inv .4 chord e in
-          let f = c .is-tone .ensures .0 ∙ ap (λ (t : List ℕ). isToneOf t x) e ∙ tone-is chord x (c .is-tone .ensures .1) in (
-            chosen-on (inChordOf chord) all (l .i) (l .at) (l .n) keep (omega arith) (omega arith) f (w .0),
-            chosen-on (isUpper chord root) all (l .i) (l .others) (l .m) (keep && isOther root x) (omega arith) (omega arith) (ap (λ (b : Bool). b && isOther root x) f) (w .1),
+          let so-far = l .inv .4 chord e in
+          let is = ap (leb (getD (c .before .before .before .before .lowest-of .result) (x % 12) 0)) (w .0) ∙ ap (λ (t : List ℕ). isToneOf t x) e ∙ tone-is chord x x-lt in (
+            chosen-on (inChordOf chord) all (l .i) (l .at) (l .n) keep (omega arith) (omega arith) is (so-far .0),
+            chosen-on (isUpper chord root) all (l .i) (l .others) (l .m) (keep && isOther root x) (omega arith) (omega arith) (ap (λ (b : Bool). b && isOther root x) is) (so-far .1),
           ),
     )
 
@@ -123,7 +141,10 @@ chord-tones-spec =
     lowest-of-requires
     loop-holds
     array-read-x
-    is-tone-requires
+    cast-keep
+    mul-keep
+    array-read-keep
+    wide-requires
     array-write-at
     cast-n
     add-n
