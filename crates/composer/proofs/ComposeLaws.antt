@@ -15,7 +15,7 @@ use Rattle.composer.specs.Drums.{drumsOf}
 use Rattle.composer.specs.Harmony.{melodyPcsOf, harmonyOf, Tonal}
 use Rattle.composer.specs.Keys.{keysOf}
 use Rattle.composer.specs.Lead.{leadOf}
-use Rattle.composer.specs.Promise.{LanesPromise, BarsPromise, ScorePromise, DrawsPromise, SongPromise}
+use Rattle.composer.specs.Promise.{LanesPromise, BarsPromise, EventsPromise, ScorePromise, DrawsPromise, SongPromise}
 use Rattle.composer.specs.Tempo.{beatsOf, tempoOf}
 use Rattle.composer.specs.Voice.{leadVoiceOf}
 use Rattle.composer.specs.declared.bass.BassLane.{BassLane}
@@ -27,6 +27,7 @@ use Rattle.composer.specs.declared.keys.KeysLane.{KeysLane}
 use Rattle.composer.specs.declared.lead.LeadLane.{LeadLane}
 use Rattle.composer.specs.declared.refusal.Outcome.{Outcome}
 use Rattle.composer.specs.declared.refusal.Refusal.{Refusal}
+use Rattle.composer.specs.declared.score.Score.{Score}
 use Rattle.composer.specs.declared.spread.Drawn.{Drawn}
 use Rattle.composer.specs.declared.style.Style.{Style}
 use Rattle.composer.specs.declared.voice.VoiceDraw.{VoiceDraw}
@@ -154,3 +155,6 @@ unfolding composedOf songBy
 done-promise zero seed h = song-promise Style.Hiphop seed .score
 done-promise (suc zero) seed h = song-promise Style.Sleep seed .score
 done-promise (suc (suc n)) seed h = let e : _≡_ {A = ℕ} 1 0 = ap refusals h in absurd (omega (arith, e))
+
+pub events-promise : {style : Style} {s : Score} {scale : Scale} → ScorePromise style s scale → EventsPromise s
+events-promise p = record { lanes = p .lanes; plain = p .plain }

@@ -42,6 +42,11 @@ pub record BarsPromise (s : Score) : Type 0 where
   pub hits : EachAtMost hitBar 13 (take (s .«hit_count») (s .hits))
   pub bass : EachAtMost noteBar 13 (take (s .«bass_count») (s .bass))
 
+-- what writing a score's events asks: each lane in order, every float a plain number
+pub record EventsPromise (s : Score) : Type 0 where
+  pub lanes : LanesPromise s
+  pub plain : PlainPromise s
+
 pub record ScorePromise (style : Style) (score : Score) (scale : Scale) : Type 0 where
   -- the tempo is a whole number, within the style's window
   pub beats : ℕ

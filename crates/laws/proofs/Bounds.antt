@@ -9,7 +9,7 @@ use mathlib.Core.Bool.{Bool, true, false, not, _&&_, _||_, cond}
 use lib.IntN.{ℤ}
 use borrow.Author.Tests.{ltb-false}
 use lib.Dec.{T, ltb, eqb, eqb→eq, ltb→lt, lit<}
-use lib.Ieee.{Float, nan, inf, fin, Format, prec, emax, low, up, down, odd, units, round, sum, add, sub, mul, div, le, lt, toUnsigned}
+use lib.Ieee.{Float, nan, inf, fin, Format, prec, emax, low, up, down, odd, units, round, sum, add, sub, mul, div, le, lt, isNan, toUnsigned}
 use lib.Ieee.Fits.{down-pos, and-l, round-is}
 use lib.Ieee.Exact.{HasValue}
 use lib.Ieee.Nearest.{div-mono}
@@ -29,6 +29,13 @@ nn-value nan p = absurd p
 nn-value (inf s) p = absurd p
 nn-value (fin true m e) p = absurd p
 nn-value (fin false m e) p = (refl, refl)
+
+-- what asking for the bits needs
+pub no-nan : (x : Float) → T (nonneg x) → T (not (isNan x))
+unfolding isNan
+no-nan nan p = absurd p
+no-nan (inf s) p = absurd p
+no-nan (fin s m e) p = tt
 
 or-split : (a b : Bool) → T (a || b) → T a ⊎ T b
 or-split true b t = inl tt

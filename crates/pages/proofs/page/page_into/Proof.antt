@@ -18,7 +18,7 @@ page-size-requires : tie.Need-page-size-requires
 page-size-requires c κs =
     let d = c .before .before in
     let a = d .args in
-    let held = run-held (a .s) (d .pre .0) in
+    let held = run-held (a .s) (d .pre .0 .lanes) in
     rw (c .runs-in .ensures)
     ((held Lane.Lead (a .p .keys) (a .bar), held Lane.Keys (a .p .keys) (a .bar)), (held Lane.Hits (a .p .drums) (a .bar), held Lane.Bass (a .p .bass) (a .bar)))
 
@@ -27,7 +27,7 @@ returns c =
     let q = c .before in
     let d = q .before .before .before in
     let a = d .args in
-    let size : q .page-size .result ≡ pageSize (a .s) (a .p) (a .bar) = q .page-size .ensures ∙ ap (λ (x : Runs). runsSize (a .p .pad) x) (q .before .runs-in .ensures) ∙ runs-size (a .s) (d .pre .0) (a .p) (a .bar) in
+    let size : q .page-size .result ≡ pageSize (a .s) (a .p) (a .bar) = q .page-size .ensures ∙ ap (λ (x : Runs). runsSize (a .p .pad) x) (q .before .runs-in .ensures) ∙ runs-size (a .s) (d .pre .0 .lanes) (a .p) (a .bar) in
     refused (a .buf .now) (pageBytes (a .s) (a .p) (a .bar)) (omega (arith, ltb-true, size, page-length (a .s) (d .pre .1 .0) (a .p) (a .bar) (d .pre .1 .1)))
 
 put-page-requires : tie.Need-put-page-requires
@@ -35,7 +35,7 @@ put-page-requires c κs =
     let q = c .before .before in
     let d = q .before .before .before in
     let a = d .args in
-    let size : q .page-size .result ≡ pageSize (a .s) (a .p) (a .bar) = q .page-size .ensures ∙ ap (λ (x : Runs). runsSize (a .p .pad) x) (q .before .runs-in .ensures) ∙ runs-size (a .s) (d .pre .0) (a .p) (a .bar) in
+    let size : q .page-size .result ≡ pageSize (a .s) (a .p) (a .bar) = q .page-size .ensures ∙ ap (λ (x : Runs). runsSize (a .p .pad) x) (q .before .runs-in .ensures) ∙ runs-size (a .s) (d .pre .0 .lanes) (a .p) (a .bar) in
     (d .pre .0, (d .pre .1 .0, (d .pre .1 .1, (q .before .runs-in .ensures, omega (arith, ltb-false, size)))))
 
 same-length : tie.Need-same-length

@@ -32,7 +32,7 @@ put-run-requires c κs =
     let d = c1 .before .before .before .before .before .before .before in
     let a = d .args in
     let w = c1 .put-chord .ensures in
-    let f = run-fits (a .s) (d .pre .0) Lane.Lead (a .p .keys) (a .bar) (a .runs .lead) (lead-is d) in
+    let f = run-fits (a .s) (d .pre .0 .lanes) Lane.Lead (a .p .keys) (a .bar) (a .runs .lead) (lead-is d) in
     (d .pre .0, (f .0, omega (arith, w .next, wrote-length w, f .1, d .pre .1 .1 .1 .1)))
 
 put-run-requires-2 : tie.Need-put-run-requires-2
@@ -41,8 +41,8 @@ put-run-requires-2 c κs =
     let c1 = c2 .before .before .before .before in
     let d = c1 .before .before .before .before .before .before .before in
     let a = d .args in
-    let w = wrote-then (c1 .put-chord .ensures) (run-wrote (a .s) (d .pre .0) Lane.Lead (a .p .keys) (a .bar) (a .runs .lead) (lead-is d) (c2 .put-run .ensures)) in
-    let f = run-fits (a .s) (d .pre .0) Lane.Keys (a .p .keys) (a .bar) (a .runs .keys) (keys-is d) in
+    let w = wrote-then (c1 .put-chord .ensures) (run-wrote (a .s) (d .pre .0 .lanes) Lane.Lead (a .p .keys) (a .bar) (a .runs .lead) (lead-is d) (c2 .put-run .ensures)) in
+    let f = run-fits (a .s) (d .pre .0 .lanes) Lane.Keys (a .p .keys) (a .bar) (a .runs .keys) (keys-is d) in
     (d .pre .0, (f .0, omega (arith, w .next, wrote-length w, f .1, d .pre .1 .1 .1 .1)))
 
 put-run-requires-3 : tie.Need-put-run-requires-3
@@ -52,8 +52,8 @@ put-run-requires-3 c κs =
     let c1 = c2 .before .before .before .before in
     let d = c1 .before .before .before .before .before .before .before in
     let a = d .args in
-    let w = wrote-then (c1 .put-chord .ensures) (wrote-then (run-wrote (a .s) (d .pre .0) Lane.Lead (a .p .keys) (a .bar) (a .runs .lead) (lead-is d) (c2 .put-run .ensures)) (run-wrote (a .s) (d .pre .0) Lane.Keys (a .p .keys) (a .bar) (a .runs .keys) (keys-is d) (c3 .put-run2 .ensures))) in
-    let f = run-fits (a .s) (d .pre .0) Lane.Hits (a .p .drums) (a .bar) (a .runs .hits) (hits-is d) in
+    let w = wrote-then (c1 .put-chord .ensures) (wrote-then (run-wrote (a .s) (d .pre .0 .lanes) Lane.Lead (a .p .keys) (a .bar) (a .runs .lead) (lead-is d) (c2 .put-run .ensures)) (run-wrote (a .s) (d .pre .0 .lanes) Lane.Keys (a .p .keys) (a .bar) (a .runs .keys) (keys-is d) (c3 .put-run2 .ensures))) in
+    let f = run-fits (a .s) (d .pre .0 .lanes) Lane.Hits (a .p .drums) (a .bar) (a .runs .hits) (hits-is d) in
     (d .pre .0, (f .0, omega (arith, w .next, wrote-length w, f .1, d .pre .1 .1 .1 .1)))
 
 put-run-requires-4 : tie.Need-put-run-requires-4
@@ -64,8 +64,8 @@ put-run-requires-4 c κs =
     let c1 = c2 .before .before .before .before in
     let d = c1 .before .before .before .before .before .before .before in
     let a = d .args in
-    let w = wrote-then (c1 .put-chord .ensures) (wrote-then (run-wrote (a .s) (d .pre .0) Lane.Lead (a .p .keys) (a .bar) (a .runs .lead) (lead-is d) (c2 .put-run .ensures)) (wrote-then (run-wrote (a .s) (d .pre .0) Lane.Keys (a .p .keys) (a .bar) (a .runs .keys) (keys-is d) (c3 .put-run2 .ensures)) (run-wrote (a .s) (d .pre .0) Lane.Hits (a .p .drums) (a .bar) (a .runs .hits) (hits-is d) (c4 .put-run3 .ensures)))) in
-    let f = run-fits (a .s) (d .pre .0) Lane.Bass (a .p .bass) (a .bar) (a .runs .bass) (bass-is d) in
+    let w = wrote-then (c1 .put-chord .ensures) (wrote-then (run-wrote (a .s) (d .pre .0 .lanes) Lane.Lead (a .p .keys) (a .bar) (a .runs .lead) (lead-is d) (c2 .put-run .ensures)) (wrote-then (run-wrote (a .s) (d .pre .0 .lanes) Lane.Keys (a .p .keys) (a .bar) (a .runs .keys) (keys-is d) (c3 .put-run2 .ensures)) (run-wrote (a .s) (d .pre .0 .lanes) Lane.Hits (a .p .drums) (a .bar) (a .runs .hits) (hits-is d) (c4 .put-run3 .ensures)))) in
+    let f = run-fits (a .s) (d .pre .0 .lanes) Lane.Bass (a .p .bass) (a .bar) (a .runs .bass) (bass-is d) in
     (d .pre .0, (f .0, omega (arith, w .next, wrote-length w, f .1, d .pre .1 .1 .1 .1)))
 
 same-length : tie.Need-same-length
@@ -81,10 +81,10 @@ returns c =
     let c1 = c2 .before .before .before .before in
     let d = c1 .before .before .before .before .before .before .before in
     let a = d .args in
-    let lead = run-wrote (a .s) (d .pre .0) Lane.Lead (a .p .keys) (a .bar) (a .runs .lead) (lead-is d) (c2 .put-run .ensures) in
-    let keys = run-wrote (a .s) (d .pre .0) Lane.Keys (a .p .keys) (a .bar) (a .runs .keys) (keys-is d) (c3 .put-run2 .ensures) in
-    let hits = run-wrote (a .s) (d .pre .0) Lane.Hits (a .p .drums) (a .bar) (a .runs .hits) (hits-is d) (c4 .put-run3 .ensures) in
-    let bass = run-wrote (a .s) (d .pre .0) Lane.Bass (a .p .bass) (a .bar) (a .runs .bass) (bass-is d) (c5 .put-run4 .ensures) in
+    let lead = run-wrote (a .s) (d .pre .0 .lanes) Lane.Lead (a .p .keys) (a .bar) (a .runs .lead) (lead-is d) (c2 .put-run .ensures) in
+    let keys = run-wrote (a .s) (d .pre .0 .lanes) Lane.Keys (a .p .keys) (a .bar) (a .runs .keys) (keys-is d) (c3 .put-run2 .ensures) in
+    let hits = run-wrote (a .s) (d .pre .0 .lanes) Lane.Hits (a .p .drums) (a .bar) (a .runs .hits) (hits-is d) (c4 .put-run3 .ensures) in
+    let bass = run-wrote (a .s) (d .pre .0 .lanes) Lane.Bass (a .p .bass) (a .bar) (a .runs .bass) (bass-is d) (c5 .put-run4 .ensures) in
     wrote-as (omega arith) refl (wrote-then (c1 .put-chord .ensures) (wrote-then lead (wrote-then keys (wrote-then hits bass))))
 
 pub put-page-spec : {M : Type 1} → statement M

@@ -2,7 +2,7 @@
 use mathlib.Core.Path.{_≡_}
 use Rattle.composer.specs.Compose.{composeOf}
 use Rattle.composer.specs.declared.refusal.Outcome.{Outcome}
-use Rattle.composer.proofs.ComposeLaws.{done-promise}
+use Rattle.composer.proofs.ComposeLaws.{done-promise, events-promise}
 use Rattle.composer.proofs.form.Arranged.{arranged-promise}
 use Rattle.pages.specs.Sheet.{sheetAsked}
 use borrow.Author.Needs.{needs}
@@ -27,7 +27,7 @@ sheet-into-requires c κs =
     let a = p .before .before .args in
     let done : composeOf (a .style) (a .seed) .outcome ≡ Outcome.Done = rw (p .compose .ensures) at (c .before .before .before .before .enum-told .given .1) in
     let promise = done-promise (a .style) (a .seed) done in
-    rw (p .compose .ensures, c .before .arrange .ensures) (promise .lanes, (promise .chords, (promise .scale-most, arranged-promise (a .seed) .most)))
+    rw (p .compose .ensures, c .before .arrange .ensures) (events-promise promise, (promise .chords, (promise .scale-most, arranged-promise (a .seed) .most)))
 
 returns : tie.Need-returns
 unfolding sheetAsked

@@ -20,7 +20,7 @@ returns c =
     let eight : length (a .s .«bar_chords») ≡ 8 = simp length-map at (p .good .1 .0 .1 .1 .1 .1 .0 .1 .0 .1) in
     let six : length (a .scale .pcs) ≡ 6 = search needs in
     let most : length (a .f .plays) ≡ 64 = simp length-map at (p .good .1 .1 .1 .0 .1 .1 .1 .1 .1 .1 .0 .1 .0 .1) in
-    let size = sheet-length (a .seed) (a .s) (a .scale) (a .f) (p .pre .0) (chords-length (a .s .«bar_chords») eight (p .pre .1 .0)) (omega arith) (omega arith) in
+    let size = sheet-length (a .seed) (a .s) (a .scale) (a .f) (p .pre .0 .lanes) (chords-length (a .s .«bar_chords») eight (p .pre .1 .0)) (omega arith) (omega arith) in
     refused (a .buf .now) (sheetBytes (a .seed) (a .s) (a .scale) (a .f)) (omega arith)
 
 put-sheet-requires : tie.Need-put-sheet-requires
