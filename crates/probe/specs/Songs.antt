@@ -1,6 +1,6 @@
 -- The numbers on a song's sheet, summed. Definitions only.
 use mathlib.Core.List.{List}
-use Prim.Native.Nat.{ℕ, zero, suc, _+_}
+use Prim.Native.Nat.{ℕ, zero, suc, _+_, _<_}
 use lib.ListN.{getD}
 use lib.Ieee.{binary32, toBits}
 use Rattle.composer.specs.Chord.{pastChord}
@@ -10,6 +10,7 @@ use Rattle.composer.specs.Form.Ends.{endCodeOf, outroCodeOf}
 use Rattle.composer.specs.Form.Plays.{bitsOf, silent}
 use Rattle.composer.specs.Form.Song.{arrangeOf}
 use Rattle.composer.specs.Note.{kindNumberOf, pastNote, pastHit}
+use Rattle.composer.specs.Plain.{PlainNote, PlainHit}
 use Rattle.composer.specs.Voice.{voiceNumberOf}
 use Rattle.composer.specs.declared.chord.Chord.{Chord}
 use Rattle.composer.specs.declared.form.Form.{Form}
@@ -37,6 +38,13 @@ notesSum notes n = sumTo (λ i. noteSum (getD notes i pastNote)) n
 
 abbrev pub hitsSum : List Hit → ℕ → ℕ
 hitsSum hits n = sumTo (λ i. hitSum (getD hits i pastHit)) n
+
+-- what they ask: each of these events has plain floats
+abbrev pub PlainNotes : List Note → ℕ → Type 0
+PlainNotes notes n = (i : ℕ) → i < n → PlainNote (getD notes i pastNote)
+
+abbrev pub PlainHits : List Hit → ℕ → Type 0
+PlainHits hits n = (i : ℕ) → i < n → PlainHit (getD hits i pastHit)
 
 -- ---- harmony
 abbrev pub chordSum : Chord → ℕ

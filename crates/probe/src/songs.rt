@@ -2,8 +2,12 @@
 // part of the song composed and arranged.
 ghost use mathlib.Core.Path.{_≡_};
 ghost use Prim.Native.Nat.{_+_, _^_, _≤_, _<_};
-ghost use Rattle.composer.specs.Promise.{LanesPromise};
-ghost use Rattle.probe.specs.Songs.{noteSum, hitSum, notesSum, hitsSum, chordSum, chordsSum, scaleSum, endsSum, playsSum, scoreSum, formSum, songSum};
+ghost use lib.Dec.{T};
+ghost use lib.Ieee.{binary32, toBits};
+ghost use Rattle.laws.specs.Floats.{nonneg};
+ghost use Rattle.composer.specs.Plain.{PlainNote, PlainHit};
+ghost use Rattle.composer.specs.Promise.{EventsPromise};
+ghost use Rattle.probe.specs.Songs.{noteSum, hitSum, notesSum, hitsSum, PlainNotes, PlainHits, chordSum, chordsSum, scaleSum, endsSum, playsSum, scoreSum, formSum, songSum};
 use crate::draws::flag;
 use composer::chord::Chord;
 use composer::compose::compose;
@@ -14,31 +18,41 @@ use composer::note::Hit;
 use composer::note::Note;
 use composer::refusal::Outcome;
 use composer::score::Score;
-use streams::float::bits_of;
+
+// The bits of x, which is no NaN: nothing tests for one.
+fn plain_bits(x: f32) -> u32
+    requires { ⌜ T (nonneg x) ⌝ }
+    ensures { λ r. ⌜ r ≡ toBits binary32 x ⌝ }
+{
+    f32::to_bits(x)
+}
 
 fn note_sum(n: Note) -> u64
+    requires { ⌜ PlainNote n ⌝ }
     ensures { λ r. ⌜ r ≡ noteSum n ⌝ }
     ensures { λ r. ⌜ r < 2 ^ 34 ⌝ }
 {
-    let at = bits_of(n.at);
-    let vel = bits_of(n.vel);
-    let dur = bits_of(n.dur);
+    let at = plain_bits(n.at);
+    let vel = plain_bits(n.vel);
+    let dur = plain_bits(n.dur);
     n.bar as u64 + at as u64 + n.midi as u64 + vel as u64 + dur as u64
 }
 
 fn hit_sum(h: Hit) -> u64
+    requires { ⌜ PlainHit h ⌝ }
     ensures { λ r. ⌜ r ≡ hitSum h ⌝ }
     ensures { λ r. ⌜ r < 2 ^ 34 ⌝ }
 {
     let kind = h.kind;
     let number = kind.number();
-    let at = bits_of(h.at);
-    let gain = bits_of(h.gain);
+    let at = plain_bits(h.at);
+    let gain = plain_bits(h.gain);
     h.bar as u64 + number as u64 + at as u64 + gain as u64
 }
 
 fn lead_sum(notes: [Note; 56], n: usize) -> u64
     requires { ⌜ n ≤ 56 ⌝ }
+    requires { ⌜ PlainNotes notes n ⌝ }
     ensures { λ r. ⌜ r ≡ notesSum notes n ⌝ }
     ensures { λ r. ⌜ r ≤ 2 ^ 41 ⌝ }
 {
@@ -53,6 +67,7 @@ fn lead_sum(notes: [Note; 56], n: usize) -> u64
 
 fn keys_sum(notes: [Note; 128], n: usize) -> u64
     requires { ⌜ n ≤ 128 ⌝ }
+    requires { ⌜ PlainNotes notes n ⌝ }
     ensures { λ r. ⌜ r ≡ notesSum notes n ⌝ }
     ensures { λ r. ⌜ r ≤ 2 ^ 41 ⌝ }
 {
@@ -67,6 +82,7 @@ fn keys_sum(notes: [Note; 128], n: usize) -> u64
 
 fn hits_sum(hits: [Hit; 98], n: usize) -> u64
     requires { ⌜ n ≤ 98 ⌝ }
+    requires { ⌜ PlainHits hits n ⌝ }
     ensures { λ r. ⌜ r ≡ hitsSum hits n ⌝ }
     ensures { λ r. ⌜ r ≤ 2 ^ 41 ⌝ }
 {
@@ -81,6 +97,7 @@ fn hits_sum(hits: [Hit; 98], n: usize) -> u64
 
 fn bass_sum(notes: [Note; 104], n: usize) -> u64
     requires { ⌜ n ≤ 104 ⌝ }
+    requires { ⌜ PlainNotes notes n ⌝ }
     ensures { λ r. ⌜ r ≡ notesSum notes n ⌝ }
     ensures { λ r. ⌜ r ≤ 2 ^ 41 ⌝ }
 {
@@ -162,7 +179,7 @@ fn plays_sum(f: Form) -> u64
 
 // Tempo, voice, chords, scale and events.
 fn score_sum(s: Score, scale: Scale) -> u64
-    requires { ⌜ LanesPromise s ⌝ }
+    requires { ⌜ EventsPromise s ⌝ }
     ensures { λ r. ⌜ r ≡ scoreSum s scale ⌝ }
     ensures { λ r. ⌜ r < 2 ^ 44 ⌝ }
 {
@@ -172,7 +189,7 @@ fn score_sum(s: Score, scale: Scale) -> u64
     let keys = s.keys;
     let hits = s.hits;
     let bass = s.bass;
-    let tempo = bits_of(s.bpm);
+    let tempo = plain_bits(s.bpm);
     let number = voice.number();
     let chords = chords_sum(bars) + scale_sum(scale);
     let high = lead_sum(lead, s.lead_count) + keys_sum(keys, s.keys_count);

@@ -25,7 +25,7 @@ array-copy-out-note-sum : tie.Need-array-copy-out-note-sum Inv-loop μ-loop
 array-copy-out-note-sum c = search needs
 
 note-sum-requires : tie.Need-note-sum-requires Inv-loop μ-loop
-note-sum-requires c κs = search needs
+note-sum-requires c κs = c .before .before .before .pre .1 (c .before .before .loop .i) (omega arith)
 
 add-w : tie.Need-add-w Inv-loop μ-loop
 add-w c = search needs

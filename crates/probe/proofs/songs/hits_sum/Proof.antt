@@ -25,7 +25,7 @@ array-copy-out-hit-sum : tie.Need-array-copy-out-hit-sum Inv-loop μ-loop
 array-copy-out-hit-sum c = search needs
 
 hit-sum-requires : tie.Need-hit-sum-requires Inv-loop μ-loop
-hit-sum-requires c κs = search needs
+hit-sum-requires c κs = c .before .before .before .pre .1 (c .before .before .loop .i) (omega arith)
 
 add-w : tie.Need-add-w Inv-loop μ-loop
 add-w c = search needs

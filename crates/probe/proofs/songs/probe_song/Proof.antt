@@ -2,7 +2,7 @@
 use mathlib.Core.Path.{_≡_}
 use Rattle.composer.specs.Compose.{composeOf}
 use Rattle.composer.specs.declared.refusal.Outcome.{Outcome}
-use Rattle.composer.proofs.ComposeLaws.{done-promise}
+use Rattle.composer.proofs.ComposeLaws.{done-promise, events-promise}
 use Rattle.composer.proofs.form.Arranged.{arranged-promise}
 use Rattle.probe.specs.Songs.{songSum}
 use borrow.Author.Needs.{needs}
@@ -27,7 +27,7 @@ score-sum-requires c κs =
     let p = t .before .before in
     let a = p .before .args in
     let done : composeOf (a .style) (a .seed) .outcome ≡ Outcome.Done = rw (p .compose .ensures) at (t .enum-told2 .given .1) in
-    rw (p .compose .ensures) (done-promise (a .style) (a .seed) done .lanes)
+    rw (p .compose .ensures) (events-promise (done-promise (a .style) (a .seed) done))
 
 form-sum-requires : tie.Need-form-sum-requires
 form-sum-requires c κs =
