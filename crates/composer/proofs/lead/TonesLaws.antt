@@ -8,8 +8,8 @@ use native.Mathlib.Omega.{arith}
 use borrow.Author.Tests.{eq-eqb, ne-eqb, eqb-true, eqb-false, le-leb, lt-leb, leb-true, leb-false, ltb-true, ltb-false}
 use mir.Val.{boolByte}
 use lib.Dec.{leb, ltb, eqb}
-use lib.ListN.{length, getD, take, drop, set, replicate, drop-of-length-le, length-append, length-take, length-set, getD-replicate}
-use lib.Seq.{drop-cons, take-suc, take-at, getD-set-same, getD-set-other, set-out}
+use lib.ListN.{length, getD, take, drop, set, replicate, drop-of-length-le, length-append, length-set, getD-replicate}
+use lib.Seq.{drop-cons, take-suc, take-at, getD-set-same, getD-set-other}
 use Rattle.laws.specs.Lists.{pad, filterOf}
 use Rattle.composer.specs.Lead.Scale.{inPool}
 use Rattle.composer.specs.Lead.Tones.{aboveOf, inChordOf, lowered, lowestFrom, lowestOf, isToneOf, isSungOf, noClass, kept, one, tonesIn, packed, clearedOf, listed, tonesInOf, hasClass, scaleNotesIn, scaleNotesOf, isOther, rankOf, closerOf, closest, nearestOf}

@@ -1,7 +1,6 @@
 -- What a bar's notes are drawn from: the window, the velocities, and the chord's tones. Definitions only.
 use mathlib.Core.Bool.{Bool, cond}
 use mathlib.Core.List.{List}
-use Prim.Native.Nat.{ℕ}
 use Rattle.composer.specs.Lead.Tones.{noClass, tonesInOf, chordTonesOf, strongOf}
 use Rattle.composer.specs.declared.chord.Chord.{Chord}
 use Rattle.composer.specs.declared.style.LeadStyle.{LeadStyle}
