@@ -1,7 +1,6 @@
 -- Times in a bar. Definitions only.
 use mathlib.Core.Bool.{cond}
-use lib.Ieee.{Float, binary32, ofInt, ofBits, lt, sub, mul, toUnsigned}
-use Rattle.laws.specs.Floats.{f32Of}
+use lib.Ieee.{Float, binary32, ofBits, lt, sub, mul}
 
 -- 4.0
 abbrev pub beatsPerBar : Float
@@ -13,11 +12,6 @@ sixteenthBeats = ofBits binary32 0x3e80_0000
 
 abbrev pub barSOf : Float → Float
 barSOf beatS = mul binary32 beatS beatsPerBar
-
--- of a beat that is not negative; from 2 ^ 24 on there are only whole ones
-unfoldable pub fractOf : Float → Float
-unfolding lt sub ofInt ofBits toUnsigned
-fractOf x = cond (lt x (ofBits binary32 0x4b80_0000)) (sub binary32 x (f32Of (toUnsigned 64 x))) (ofBits binary32 0)
 
 -- (s - 0.5) * eighth
 abbrev pub swingDelayOf : Float → Float → Float

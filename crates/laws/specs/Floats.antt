@@ -3,7 +3,7 @@ use Prim.Native.Nat.{ℕ, _+_}
 use mathlib.Core.Bool.{Bool, false, not, cond}
 use lib.IntN.{pos}
 use lib.Dec.{T}
-use lib.Ieee.{Float, nan, inf, fin, binary32, ofInt, ofBits, sub, le, toUnsigned}
+use lib.Ieee.{Float, nan, inf, fin, binary32, ofInt, ofBits, sub, le, lt, toUnsigned}
 use lib.Ieee.Scale.{finite}
 
 -- a whole number as an f32
@@ -14,6 +14,11 @@ f32Of n = ofInt binary32 (pos n)
 unfoldable pub roundOf : Float → ℕ
 unfolding toUnsigned sub le ofBits ofInt
 roundOf x = cond (le (ofBits binary32 0x3f00_0000) (sub binary32 x (f32Of (toUnsigned 64 x)))) (toUnsigned 64 x + 1) (toUnsigned 64 x)
+
+-- the fraction of x that is not negative; from 2 ^ 24 on there are only whole ones
+unfoldable pub fractOf : Float → Float
+unfolding lt sub ofInt ofBits toUnsigned
+fractOf x = cond (lt x (ofBits binary32 0x4b80_0000)) (sub binary32 x (f32Of (toUnsigned 64 x))) (ofBits binary32 0)
 
 -- finite with a clear sign: zero is in, -0 is not
 abbrev pub nonneg : Float → Bool

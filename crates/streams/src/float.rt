@@ -1,12 +1,12 @@
-// Casts of an f32 that answer for every value, NaN and the infinities included, and the whole part of one below 2^23.
+// Casts and the fraction of an f32, which answer for every value, NaN and the infinities included.
 ghost use mathlib.Core.Path.{_≡_};
 ghost use mathlib.Core.Bool.{true};
 ghost use lib.Ieee.{binary32, le, lt, ofBits, toBits, toUnsigned};
-ghost use Rattle.laws.specs.Floats.{f32Of};
+ghost use Rattle.laws.specs.Floats.{f32Of, fractOf};
 
 // x without its fraction, as a float. From 2^23 on an f32 has no room for a fraction, so x + 2^23 is
 // rounded to a whole number; where that is above x, x's own is one less.
-pub fn whole(x: f32) -> f32
+fn whole(x: f32) -> f32
     requires { ⌜ (le (ofBits binary32 0) x ≡ true) × (lt x (ofBits binary32 0x4b00_0000) ≡ true) ⌝ }
     ensures { λ r. ⌜ r ≡ f32Of (toUnsigned 64 x) ⌝ }
 {
@@ -39,6 +39,29 @@ pub fn truncated(x: f32) -> u64
         (w as u32) as u64
     } else {
         truncated_any(x)
+    }
+}
+
+// The fraction of any x, by its truncated value. From 2^24 on there are only whole ones.
+fn fract_any(x: f32) -> f32
+    ensures { λ r. ⌜ r ≡ fractOf x ⌝ }
+{
+    if x < 16777216.0 {
+        x - truncated(x) as f32
+    } else {
+        0.0
+    }
+}
+
+// The fraction of x: 0 for a whole number, an infinity above and a NaN; what is negative is given back. From 0 up
+// to 2^23 its whole part needs no cast.
+pub fn fract(x: f32) -> f32
+    ensures { λ r. ⌜ r ≡ fractOf x ⌝ }
+{
+    if x >= 0.0 && x < 8388608.0 {
+        x - whole(x)
+    } else {
+        fract_any(x)
     }
 }
 

@@ -6,7 +6,7 @@ use lib.Dec.{T, eqb, leb, leb→le}
 use lib.ListN.{getD, length}
 use lib.Ieee.{Float, nan, binary32, add, sub, mul, ofInt, ofBits, le, ne}
 use mir.Facts.{and-yes}
-use Rattle.laws.specs.Floats.{f32Of, nonneg, In}
+use Rattle.laws.specs.Floats.{f32Of, fractOf, nonneg, In}
 use Rattle.laws.specs.Lists.{allOf}
 use Rattle.laws.proofs.Bools.{either}
 use Rattle.laws.proofs.Bounds.{here, wider, add-in, mul-in, sub-in}
@@ -22,7 +22,7 @@ use Rattle.composer.specs.Drums.Kit.{barAt, eighthOf, endsStatement, dra
 use Rattle.composer.specs.Note.{zero32, pastHit}
 use Rattle.composer.specs.Plain.{latest, softest, loudest, PlainHit}
 use Rattle.composer.specs.Spread.{drawOf, jitterOf}
-use Rattle.composer.specs.Timing.{fractOf, swingDelayOf, heldAtZero}
+use Rattle.composer.specs.Timing.{swingDelayOf, heldAtZero}
 use Rattle.composer.specs.declared.spread.Jitter.{Jitter}
 use Rattle.composer.specs.declared.style.Style.{Style}
 use Rattle.composer.specs.declared.style.Style.the-variants.{Hiphop, Sleep}

@@ -8,6 +8,7 @@ use lib.Ieee.{Float, binary32, add, sub, mul, neg, eq, lt, ofInt, ofBits, toBits
 use lib.Ieee.Fits.{add-fits, sub-fits, mul-fits, cond-fits}
 use lib.Ieee.Bits.{ofBits-fits}
 use mir.Facts.{and-yes}
+use Rattle.laws.specs.Floats.{fractOf}
 use Rattle.laws.specs.Sorts.{All}
 use Rattle.laws.proofs.Bools.{cond-by}
 use Rattle.laws.proofs.Order.{same-bits}
@@ -15,7 +16,7 @@ use Rattle.laws.proofs.Runs.{every, every-at}
 use Rattle.streams.specs.Draw.{chanceOf, coinOf}
 use Rattle.streams.specs.declared.stream.NoiseStream.{NoiseStream}
 use Rattle.composer.specs.Note.{zero32}
-use Rattle.composer.specs.Timing.{sixteenthBeats, fractOf}
+use Rattle.composer.specs.Timing.{sixteenthBeats}
 use Rattle.composer.specs.Lead.Push.{pushP, pushOf}
 use Rattle.composer.specs.Lead.Statement.{leadGrid}
 use Rattle.composer.specs.Lead.Answer.{gridFirst, gridLast, shiftP, eitherWayOf, clampOf, shiftOf}

@@ -4,12 +4,12 @@ use Prim.Native.Nat.{ℕ, zero, suc, _+_, _%_}
 use lib.Dec.{eqb}
 use lib.ListN.{getD, set}
 use lib.Ieee.{Float, nan, binary32, ofBits, add, mul, div, ne}
-use Rattle.laws.specs.Floats.{f32Of}
+use Rattle.laws.specs.Floats.{f32Of, fractOf}
 use Rattle.streams.specs.Draw.{chanceOf}
 use Rattle.streams.specs.declared.stream.NoiseStream.{NoiseStream}
 use Rattle.composer.specs.Note.{zero32}
 use Rattle.composer.specs.Spread.{drawOf, jitterOf}
-use Rattle.composer.specs.Timing.{fractOf, swingDelayOf, heldAtZero}
+use Rattle.composer.specs.Timing.{swingDelayOf, heldAtZero}
 use Rattle.composer.specs.Drums.Grooves.{ghostKick}
 use Rattle.composer.specs.declared.note.DrumKind.{DrumKind}
 use Rattle.composer.specs.declared.spread.Spread.{Spread}

@@ -5,8 +5,8 @@ use Prim.Native.Nat.{ℕ, _+_}
 use lib.Dec.{ltb, eqb}
 use lib.ListN.{getD, set}
 use lib.Ieee.{Float, nan, binary32, ofBits, eq}
+use Rattle.laws.specs.Floats.{fractOf}
 use Rattle.streams.specs.declared.stream.NoiseStream.{NoiseStream}
-use Rattle.composer.specs.Timing.{fractOf}
 use Rattle.composer.specs.declared.lead.beats.Beats.{Beats}
 use Rattle.composer.specs.declared.lead.line.Place.{Place}
 use Rattle.composer.specs.declared.lead.line.Line.{Line}

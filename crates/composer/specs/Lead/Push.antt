@@ -1,10 +1,11 @@
 -- The lofi push. Definitions only.
 use mathlib.Core.Bool.{cond}
 use lib.Ieee.{Float, binary32, ofBits, eq, sub}
+use Rattle.laws.specs.Floats.{fractOf}
 use Rattle.streams.specs.Draw.{chanceOf}
 use Rattle.streams.specs.declared.stream.NoiseStream.{NoiseStream}
 use Rattle.composer.specs.Note.{zero32}
-use Rattle.composer.specs.Timing.{sixteenthBeats, fractOf}
+use Rattle.composer.specs.Timing.{sixteenthBeats}
 use Rattle.composer.specs.Lead.Beats.{addOf}
 use Rattle.composer.specs.declared.spread.Drawn.{Drawn}
 use Rattle.composer.specs.declared.lead.push.BeatsDraw.{BeatsDraw}

@@ -8,9 +8,9 @@ use crate::note::DrumKind;
 use crate::note::Hit;
 use crate::spread::Jitter;
 use crate::spread::Spread;
-use crate::timing::fract;
 use crate::timing::held_at_zero;
 use crate::timing::swing_delay;
+use streams::float::fract;
 use streams::stream::NoiseStream;
 
 // One bar of a groove: its number in the loop, where it starts, how long its beats are, and the

@@ -3,7 +3,7 @@ ghost use mathlib.Core.Path.{_≡_};
 ghost use Prim.Native.Nat.{_≤_, _<_};
 ghost use Rattle.composer.specs.Lead.Line.{isStrongOf, isLastOf, placeOf, opensLineOf, carriedOf};
 use crate::lead::beats::Beats;
-use crate::timing::fract;
+use streams::float::fract;
 use streams::stream::NoiseStream;
 
 // The statement's first notes, which the answer opens by quoting.

@@ -4,8 +4,8 @@ ghost use Rattle.composer.specs.Lead.Push.{pushOf};
 use crate::lead::beats::Beats;
 use crate::spread::Drawn;
 use crate::timing::SIXTEENTH_BEATS;
-use crate::timing::fract;
 use streams::draw::chance;
+use streams::float::fract;
 use streams::stream::NoiseStream;
 
 // A bar's beats, and the stream after their draws.

@@ -1,4 +1,4 @@
--- Each entry is its chord’s notes, over an array of none. Assumes nothing.
+-- Each entry is its chord's notes, over an array of none. Assumes nothing.
 use mathlib.Core.Path.{_≡_, sym, _∙_}
 use mathlib.Core.List.{map}
 use Prim.Native.Nat.{_-_, _≤_}

@@ -1,4 +1,4 @@
--- The test is the definition’s, on the truncated value. Assumes nothing.
+-- The test is the definition's, on the truncated value. Assumes nothing.
 use mathlib.Core.Path.{sym, subst}
 use Prim.Native.Nat.{ℕ, _^_, _≤_}
 use Rattle.laws.proofs.Exact.{exact}

@@ -1,4 +1,4 @@
--- The test is the definition’s. Assumes nothing.
+-- The test is the definition's. Assumes nothing.
 use Rattle.composer.proofs.timing.held_at_zero.Statement.{statement}
 use Rattle.composer.proofs.timing.held_at_zero.Tie as tie
 

@@ -1,4 +1,4 @@
--- One draw, and the definition’s own operations. Assumes nothing.
+-- One draw, and the definition's own operations. Assumes nothing.
 use Rattle.composer.specs.Spread.{jitterOf}
 use borrow.Author.Needs.{needs}
 use Rattle.composer.proofs.spread.Jitter.draw.Statement.{statement}

@@ -1,14 +1,14 @@
--- The test is the definition’s, and below 2^24 the truncated value is an f32. Assumes nothing.
+-- The test is the definition's, and below 2^24 the truncated value is an f32. Assumes nothing.
 use mathlib.Core.Path.{sym, subst}
 use Prim.Native.Nat.{ℕ, _^_, _≤_}
 use lib.Dec.{T}
 use lib.Ieee.{Float, binary32, ofBits, lt, toUnsigned}
 use Rattle.laws.proofs.Exact.{exact}
 use Rattle.laws.proofs.Bounds.{cut-under}
-use Rattle.composer.specs.Timing.{fractOf}
+use Rattle.laws.specs.Floats.{fractOf}
 use borrow.Author.Needs.{needs}
-use Rattle.composer.proofs.timing.fract_any.Statement.{statement}
-use Rattle.composer.proofs.timing.fract_any.Tie as tie
+use Rattle.streams.proofs.float.fract_any.Statement.{statement}
+use Rattle.streams.proofs.float.fract_any.Tie as tie
 
 small : (x : Float) → T (lt x (ofBits binary32 0x4b80_0000)) → toUnsigned 64 x ≤ 2 ^ 24
 unfolding ofBits toUnsigned

@@ -7,9 +7,9 @@ use borrow.Author.Needs.{needs}
 use borrow.Author.Tests.{ltb-true, lt-ltb}
 use lib.Ieee.{Float, nan, inf, fin, binary32, ofBits, lt, up, down}
 use lib.Ieee.Fits.{down-pos}
-use Rattle.composer.specs.Timing.{fractOf}
-use Rattle.composer.proofs.timing.fract.Statement.{statement}
-use Rattle.composer.proofs.timing.fract.Tie as tie
+use Rattle.laws.specs.Floats.{fractOf}
+use Rattle.streams.proofs.float.fract.Statement.{statement}
+use Rattle.streams.proofs.float.fract.Tie as tie
 
 -- what is below 2^23 is below 2^24
 below : (x : Float) → lt x (ofBits binary32 0x4b00_0000) ≡ true → lt x (ofBits binary32 0x4b80_0000) ≡ true
