@@ -10,12 +10,13 @@ use Rattle.streams.specs.Stage.{streamOf}
 use Rattle.streams.specs.declared.stage.Stage.{Stage}
 use Rattle.streams.specs.declared.stream.NoiseStream.{NoiseStream}
 use Rattle.composer.specs.Bass.{bassOf}
-use Rattle.composer.specs.Compose.{beatSOf, songBy, composedOf, refusedOf, styleBy, composeOf}
+use Rattle.composer.specs.Compose.{beatSOf, songBy, composedOf, refusedOf, styleBy, composeOf, composeAnswered}
 use Rattle.composer.specs.Drums.{drumsOf}
 use Rattle.composer.specs.Harmony.{melodyPcsOf, harmonyOf, Tonal}
 use Rattle.composer.specs.Keys.{keysOf}
 use Rattle.composer.specs.Lead.{leadOf}
 use Rattle.composer.specs.Promise.{LanesPromise, BarsPromise, EventsPromise, ScorePromise, DrawsPromise, SongPromise}
+use Rattle.composer.specs.Refusal.{Refuses}
 use Rattle.composer.specs.Tempo.{beatsOf, tempoOf}
 use Rattle.composer.specs.Voice.{leadVoiceOf}
 use Rattle.composer.specs.declared.bass.BassLane.{BassLane}
@@ -45,6 +46,9 @@ pub unknown-style : (style seed : ℕ) → 2 ≤ style → composeOf style seed 
 unknown-style zero seed h = absurd (omega arith)
 unknown-style (suc zero) seed h = absurd (omega arith)
 unknown-style (suc (suc n)) seed h = refl
+
+pub compose-refused : (style seed : ℕ) → 2 ≤ style → composeAnswered (composeOf style seed) ≡ Refuses 1
+compose-refused style seed h = rw (unknown-style style seed h)
 
 -- the song of draws that are each its definition's
 pub composed-by : (style : Style) (seed : ℕ) {hs ts ls ks ds bs vs : NoiseStream} {h : HarmonyDraw} {t : Drawn} {l : LeadLane} {k : KeysLane} {d : DrumLane} {b : BassLane} {v : VoiceDraw}
@@ -113,6 +117,7 @@ module _ (style : Style) (seed : ℕ) where
   score-promise =
       let within = tempo-within (streamOf Stage.Tempo seed) style in
       record {
+        in-style = refl;
         beats = beatsOf (streamOf Stage.Tempo seed) style;
         tempo = refl;
         tempo-least = within .0;
@@ -141,9 +146,13 @@ module _ (style : Style) (seed : ℕ) where
     voice = voice-counter seed style;
   }
 
+  pub composed-done : composedOf style seed .outcome ≡ Outcome.Done
+  unfolding composedOf songBy
+  composed-done = refl
+
   pub song-promise : SongPromise style (composedOf style seed)
   unfolding composedOf songBy
-  song-promise = record { done = refl; score = score-promise; draws = draws-promise }
+  song-promise = record { given = refl; score = score-promise; draws = draws-promise }
 
 abbrev refusals : Outcome → ℕ
 refusals Outcome.Done = 0

@@ -7,16 +7,17 @@ use Rattle.laws.specs.Floats.{f32Of}
 use Rattle.laws.specs.Lanes.{Occurs, EachAtMost, Laid}
 use Rattle.composer.specs.Bass.Promise.{SoundsIn}
 use Rattle.composer.specs.Chord.{pastChord, RootPosition}
+use Rattle.composer.specs.Compose.{composeAnswered}
 use Rattle.composer.specs.Drums.{drumDrawsOf}
 use Rattle.composer.specs.Keys.{keyDrawsOf}
 use Rattle.composer.specs.Lead.Scale.{pcsOf, hasOf}
 use Rattle.composer.specs.Note.{noNote, pastNote, noteBar, noHit, pastHit, hitBar}
 use Rattle.composer.specs.Plain.{PlainPromise}
+use Rattle.composer.specs.Refusal.{Gives}
 use Rattle.composer.specs.Style.{leadStyleOf}
 use Rattle.composer.specs.Tempo.{slowestOf, fastestOf}
 use Rattle.composer.specs.declared.compose.Composed.{Composed}
 use Rattle.composer.specs.declared.harmony.Scale.{Scale}
-use Rattle.composer.specs.declared.refusal.Outcome.{Outcome}
 use Rattle.composer.specs.declared.score.Counters.{Counters}
 use Rattle.composer.specs.declared.score.Score.{Score}
 use Rattle.composer.specs.declared.style.Style.{Style}
@@ -48,6 +49,7 @@ pub record EventsPromise (s : Score) : Type 0 where
   pub plain : PlainPromise s
 
 pub record ScorePromise (style : Style) (score : Score) (scale : Scale) : Type 0 where
+  pub in-style : score .style ≡ style
   -- the tempo is a whole number, within the style's window
   pub beats : ℕ
   pub tempo : score .bpm ≡ f32Of beats
@@ -69,7 +71,7 @@ pub record ScorePromise (style : Style) (score : Score) (scale : Scale) : Type 0
   pub scale-most : scale .n ≤ 6
   pub scale-size : length (scale .pcs) ≡ 6
 
--- the counters are the draws of each stage
+-- those counters that the paper tells by counts; the lead's and the bass's are their streams' (`songBy`)
 pub record DrawsPromise (style : Style) (score : Score) (counters : Counters) : Type 0 where
   pub harmony : counters .harmony ≡ 3
   pub tempo : counters .tempo ≡ 1
@@ -78,6 +80,6 @@ pub record DrawsPromise (style : Style) (score : Score) (counters : Counters) : 
   pub voice : counters .voice ≡ 1
 
 pub record SongPromise (style : Style) (c : Composed) : Type 0 where
-  pub done : c .outcome ≡ Outcome.Done
+  pub given : composeAnswered c ≡ Gives c
   pub score : ScorePromise style (c .score) (c .scale)
   pub draws : DrawsPromise style (c .score) (c .counters)

@@ -23,7 +23,7 @@ use Rattle.composer.specs.declared.form.plays.Plays.{Plays}
 use Rattle.composer.specs.declared.refusal.Refusal.{Refusal}
 use Rattle.composer.specs.declared.score.Score.{Score}
 use Rattle.composer.specs.declared.style.Style.{Style}
-use Rattle.composer.proofs.ComposeLaws.{song-promise}
+use Rattle.composer.proofs.ComposeLaws.{composed-done, song-promise}
 use Rattle.composer.proofs.form.AskLaws.{plays-past}
 use Rattle.composer.proofs.form.SongLaws.{arranged-sound}
 use Rattle.pages.specs.Answer.{Writes, Declines, bytesOf}
@@ -147,9 +147,9 @@ module _ (style : Style) (seed b : ℕ) where
   -- a bar below the song's count
   pub page-found : (p : Plays) → playsAt (arrangeOf seed) b ≡ Gives p → pageAsked (styleNumberOf style) seed b ≡ Writes (pageBytes (composedOf style seed .score) p (loopBarOf (arrangeOf seed) b))
   unfolding pageAsked
-  page-found p plays = rw (composed-is style seed, song-promise style seed .done, found-is (playsOf (arrangeOf seed) b) p plays)
+  page-found p plays = rw (composed-is style seed, composed-done style seed, found-is (playsOf (arrangeOf seed) b) p plays)
 
   -- any other is refused with 3
   pub page-past : arrangeOf seed .bars ≤ b → pageAsked (styleNumberOf style) seed b ≡ Declines Refusal.NoSuchBar
   unfolding pageAsked
-  page-past h = rw (composed-is style seed, song-promise style seed .done, plays-past (arrangeOf seed) (arranged-sound seed) b h)
+  page-past h = rw (composed-is style seed, composed-done style seed, plays-past (arrangeOf seed) (arranged-sound seed) b h)
