@@ -1,5 +1,4 @@
 -- The run of all events is the lane. Assumes nothing.
-use Prim.Native.Nat.{_-_}
 use native.Mathlib.Nat.{sub-zero}
 use native.Mathlib.Omega.{arith}
 use Rattle.pages.specs.Lane.{countIn, eventsOf}
