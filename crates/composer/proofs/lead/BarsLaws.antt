@@ -11,7 +11,7 @@ use Rattle.streams.specs.declared.stream.NoiseStream.{NoiseStream}
 use Rattle.composer.specs.Chord.{pastChord}
 use Rattle.composer.specs.Lead.Beats.{pastBeats}
 use Rattle.composer.specs.Lead.Ground.{groundOf}
-use Rattle.composer.specs.Lead.Melody.{noLead, pastLead, singOf, barTo, startOf, openLineOf, barsTo, melodyOf}
+use Rattle.composer.specs.Lead.Melody.{noLead, pastLead, singOf, barTo, startOf, nothingSung, barsTo, melodyOf}
 use Rattle.composer.specs.Lead.Sound.{Good, Ready}
 use Rattle.composer.specs.declared.chord.Chord.{Chord}
 use Rattle.composer.specs.declared.style.LeadStyle.{LeadStyle}
@@ -44,12 +44,12 @@ module _ (s : NoiseStream) (beats : List Beats) (bars : List Chord) (pool : List
   first = startOf style (getD bars 0 pastChord) pool
 
   abbrev laneTo : ℕ → Sung
-  laneTo k = barsTo beats bars pool style (openLineOf first s) k
+  laneTo k = barsTo beats bars pool style (nothingSung first s) k
 
   good-to : (k : ℕ) → k ≤ 8 → Good pool (style .lo) (style .hi) (laneTo k) × (laneTo k .count ≤ 7 * k)
   good-to k h =
-      let g = good-start beats bars pool style ready s (openLineOf first s) first refl refl in
-      good-bars beats bars pool style ready (openLineOf first s) k h (g .0) (g .1)
+      let g = good-start beats bars pool style ready s (nothingSung first s) first refl refl in
+      good-bars beats bars pool style ready (nothingSung first s) k h (g .0) (g .1)
 
   lane-bar : (k : ℕ) → k < 8 → length (laneTo k .notes) ≡ 56 → Grown pastLead (λ x. leadBar x ≡ k) (laneTo k .notes) (laneTo (suc k) .notes) (laneTo k .count) (laneTo (suc k) .count)
   unfolding barsTo
@@ -58,10 +58,10 @@ module _ (s : NoiseStream) (beats : List Beats) (bars : List Chord) (pool : List
       bar-grown pool (groundOf style (getD bars k pastChord) pool) k b (laneTo k) (b .n) (omega (arith, good-to k (omega arith) .1, ready .few k h))
 
   start : laneTo 0 .notes ≡ replicate 56 noLead
-  start = unfold barsTo openLineOf in refl
+  start = unfold barsTo nothingSung in refl
 
   empty : laneTo 0 .count ≡ 0
-  empty = unfold barsTo openLineOf in refl
+  empty = unfold barsTo nothingSung in refl
 
   few : (k : ℕ) → k ≤ 8 → laneTo k .count ≤ 56
   few k h = omega (arith, good-to k h .1)

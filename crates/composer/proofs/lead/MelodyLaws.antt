@@ -17,7 +17,7 @@ use Rattle.composer.specs.Lead.Beats.{pastBeats}
 use Rattle.composer.specs.Lead.Scale.{fitsOf}
 use Rattle.composer.specs.Lead.Line.{placeOf}
 use Rattle.composer.specs.Lead.Ground.{groundOf}
-use Rattle.composer.specs.Lead.Melody.{pastLead, stepOf, firstOf, openingOf, singOf, barTo, startOf, openLineOf, barsTo, melodyOf}
+use Rattle.composer.specs.Lead.Melody.{pastLead, stepOf, openingOf, firstSungOf, singOf, barTo, startOf, nothingSung, barsTo, melodyOf}
 use Rattle.composer.specs.Lead.Sound.{Sound, Fit, Good, Ready}
 use Rattle.composer.specs.declared.chord.Chord.{Chord}
 use Rattle.composer.specs.declared.style.LeadStyle.{LeadStyle}
@@ -64,7 +64,7 @@ module _ (pool : List Bool) (g : Ground) (bar : ℕ) (b : Beats) where
 
   -- one note more, over the code's own equations
   pub bar-more : (m : Sung) (i : ℕ) (notes : List LeadNote) (count : ℕ) (line : Line) (p : Place) (first : ℕ) (t : LeadStep) → record { notes = notes; count = count; line = line } ≡ barTo pool g bar b m i
-      → p ≡ placeOf bar b i → first ≡ firstOf count (line .prev) (getD notes 0 pastLead .note) → t ≡ stepOf pool g line p first
+      → p ≡ placeOf bar b i → first ≡ openingOf count (line .prev) (getD notes 0 pastLead .note) → t ≡ stepOf pool g line p first
       → record { notes = set notes count (record { bar = bar; beat = getD (b .at) i nan; note = t .note; vel = t .vel }); count = count + 1; line = t .line } ≡ barTo pool g bar b m (i + 1)
   unfolding barTo singOf
   bar-more m i notes count line p first t e f h u =
@@ -75,10 +75,10 @@ module _ (pool : List Bool) (g : Ground) (bar : ℕ) (b : Beats) where
     good-sing : (m : Sung) (i : ℕ) → Good pool (g .lo) (g .hi) m → m .count < 56 → Good pool (g .lo) (g .hi) (singOf pool g bar b m i)
     unfolding singOf stepOf
     good-sing m i h room =
-        let t = stepOf pool g (m .line) (placeOf bar b i) (openingOf m) in
-        let fits = step-note-fits pool g sound (m .line) (placeOf bar b i) (openingOf m) (h .line) in
+        let t = stepOf pool g (m .line) (placeOf bar b i) (firstSungOf m) in
+        let fits = step-note-fits pool g sound (m .line) (placeOf bar b i) (firstSungOf m) (h .line) in
         good-put pool (g .lo) (g .hi) (m .notes) (m .count) (record { bar = bar; beat = getD (b .at) i nan; note = t .note; vel = t .vel }) (t .line) (h .size) room (h .notes) fits
-        (line-fits pool (g .lo) (g .hi) (m .line) (openingOf m) (t .note) (h .line) fits bar _)
+        (line-fits pool (g .lo) (g .hi) (m .line) (firstSungOf m) (t .note) (h .line) fits bar _)
 
     pub good-bar : (m : Sung) (i : ℕ) → Good pool (g .lo) (g .hi) m → m .count + i ≤ 56 → Good pool (g .lo) (g .hi) (barTo pool g bar b m i)
     unfolding barTo
@@ -86,8 +86,8 @@ module _ (pool : List Bool) (g : Ground) (bar : ℕ) (b : Beats) where
     good-bar m (suc i) h room = good-sing (barTo pool g bar b m i) i (good-bar m i h (omega arith)) (omega (arith, bar-count m i))
 
 -- ---- the start
-good-open : (pool : List Bool) (lo hi first : ℕ) (s : NoiseStream) → T (fitsOf pool lo hi first) → Good pool lo hi (openLineOf first s)
-unfolding openLineOf
+good-open : (pool : List Bool) (lo hi first : ℕ) (s : NoiseStream) → T (fitsOf pool lo hi first) → Good pool lo hi (nothingSung first s)
+unfolding nothingSung
 good-open pool lo hi first s t =
     let w = fits-what pool lo hi first t in
     record {
@@ -117,8 +117,8 @@ module _ (beats : List Beats) (bars : List Chord) (pool : List Bool) (style : Le
         omega (arith, bar-count pool (ground k) k b n (b .n), before .1, few),
       )
 
-  pub good-start : (s : NoiseStream) (m : Sung) (from : ℕ) → from ≡ first → m ≡ openLineOf from s → Good pool (style .lo) (style .hi) m × (m .count ≡ 0)
-  unfolding openLineOf
+  pub good-start : (s : NoiseStream) (m : Sung) (from : ℕ) → from ≡ first → m ≡ nothingSung from s → Good pool (style .lo) (style .hi) m × (m .count ≡ 0)
+  unfolding nothingSung
   good-start s m from e f = rw (f, e) (good-open pool (style .lo) (style .hi) first s (ready .start), refl)
 
   -- one bar more, over the code's own equations
@@ -130,7 +130,7 @@ module _ (beats : List Beats) (bars : List Chord) (pool : List Bool) (style : Le
       rw next (rw (f, e) at (h ∙ ap (barTo pool g k (getD beats k pastBeats) m) n))
 
   -- what note i of bar k asks, over the code's own equations
-  pub note-asks : (s : NoiseStream) (from : ℕ) (start m sung : Sung) (g : Ground) (k i : ℕ) → from ≡ first → start ≡ openLineOf from s → m ≡ barsTo beats bars pool style start k → g ≡ ground k
+  pub note-asks : (s : NoiseStream) (from : ℕ) (start m sung : Sung) (g : Ground) (k i : ℕ) → from ≡ first → start ≡ nothingSung from s → m ≡ barsTo beats bars pool style start k → g ≡ ground k
       → sung ≡ barTo pool g k (getD beats k pastBeats) m i → k < 8 → i < getD beats k pastBeats .n → Sound pool g × Good pool (g .lo) (g .hi) sung
   unfolding groundOf
   note-asks s from start m sung g k i e f h gs t k-lt i-lt =
@@ -144,6 +144,6 @@ module _ (beats : List Beats) (bars : List Chord) (pool : List Bool) (style : Le
   pub melody-good : (s : NoiseStream) → Good pool (style .lo) (style .hi) (melodyOf s beats bars pool style) × (melodyOf s beats bars pool style .count ≤ 56)
   unfolding melodyOf
   melody-good s =
-      let g = good-start s (openLineOf first s) first refl refl in
-      let b = good-bars (openLineOf first s) 8 (omega arith) (g .0) (g .1) in
+      let g = good-start s (nothingSung first s) first refl refl in
+      let b = good-bars (nothingSung first s) 8 (omega arith) (g .0) (g .1) in
       (b .0, omega (arith, b .1))

@@ -22,7 +22,7 @@ use Rattle.composer.specs.Lead.{sungOf, leadOf}
 use Rattle.composer.specs.Lead.Beats.{pastBeats}
 use Rattle.composer.specs.Lead.Ground.{groundOf}
 use Rattle.composer.specs.Lead.Line.{placeOf}
-use Rattle.composer.specs.Lead.Melody.{pastLead, velocityOf, stepOf, singOf, barTo, startOf, openLineOf, barsTo, melodyOf}
+use Rattle.composer.specs.Lead.Melody.{pastLead, velocityOf, stepOf, singOf, barTo, startOf, nothingSung, barsTo, melodyOf}
 use Rattle.composer.specs.Lead.Played.{leadLag, leadAccent, onGridOf, playedNoteOf, playOf, playTo, silenceOf, playedOf}
 use Rattle.composer.specs.Lead.Rhythm.{rhythmOf}
 use Rattle.composer.specs.Lead.Role.{roleOf}
@@ -124,11 +124,11 @@ style-fair Hiphop = tt
 style-fair Sleep = tt
 
 sung-full : (s : NoiseStream) (h : Harmony) (style : Style) → Full (sungOf s h style)
-unfolding sungOf melodyOf openLineOf
+unfolding sungOf melodyOf nothingSung
 sung-full s h style =
     let l = leadStyleOf style in
     let r = rhythmOf s l in
-    let m = openLineOf (startOf l (getD (h .bars) 0 pastChord) (poolOf (h .scale))) (r .stream) in
+    let m = nothingSung (startOf l (getD (h .bars) 0 pastChord) (poolOf (h .scale))) (r .stream) in
     bars-full l (style-fair style) (r .bars) (beat-in s l) (h .bars) (poolOf (h .scale)) m 8 (omega arith) (filled-none pastLead PlainSung (m .notes))
 
 -- ---- as played

@@ -134,10 +134,10 @@ held-turn sounds s i at n stream q m next h t e f g =
     (held-on (foldl pushOnOf (emptyFrom s) (keptTo sounds i)) at n stream x q b h t e)
 
 -- ---- the bar
-abbrev pub drawOf : Beats → NoiseStream → BeatsDraw
-drawOf b s = record { beats = b; stream = s }
+abbrev beatsBeside : Beats → NoiseStream → BeatsDraw
+beatsBeside b s = record { beats = b; stream = s }
 
-held-settled : (d : BeatsDraw) (at : List Float) (n : ℕ) (stream : NoiseStream) (done : Beats) → Held d at n stream → done ≡ beatsOf (settled (take n at)) → drawOf done stream ≡ settledOf d
+held-settled : (d : BeatsDraw) (at : List Float) (n : ℕ) (stream : NoiseStream) (done : Beats) → Held d at n stream → done ≡ beatsOf (settled (take n at)) → beatsBeside done stream ≡ settledOf d
 held-settled d at n stream done t e =
     let xs = t .xs in
     rw (e, t .after, written-list zero32 7 xs at n (t .written), t .is, list-back xs)
@@ -148,5 +148,5 @@ pushes-are p s sounds st t = rw (t .after, kept-is p s sounds 7 (omega arith) (t
 
 pub statement-done : (p : Float) (s : NoiseStream) (sounds : List Bool) (st : NoiseStream) (at : List Float) (n : ℕ) (stream : NoiseStream) (done : Beats)
     → Sounding p s sounds st 7 → Held (foldl pushOnOf (emptyFrom st) (keptTo sounds 7)) at n stream → done ≡ beatsOf (settled (take n at))
-    → drawOf done stream ≡ settledOf (pushesOf (slotsOf s p))
+    → beatsBeside done stream ≡ settledOf (pushesOf (slotsOf s p))
 statement-done p s sounds st at n stream done t u e = held-settled _ at n stream done u e ∙ ap (λ (d : BeatsDraw). settledOf d) (sym (pushes-are p s sounds st t))

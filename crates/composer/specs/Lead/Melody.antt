@@ -51,16 +51,16 @@ stepOf pool g l p first =
     record { note = q .note; vel = velocityOf (c .role) (d .value); line = carriedOf l (p .bar) (q .note) (d .stream) }
 
 -- the first note sung, or else the one that the line starts from
-abbrev pub firstOf : ℕ → ℕ → ℕ → ℕ
-firstOf count start sung = cond (eqb count 0) start sung
+abbrev pub openingOf : ℕ → ℕ → ℕ → ℕ
+openingOf count start sung = cond (eqb count 0) start sung
 
-abbrev pub openingOf : Sung → ℕ
-openingOf m = firstOf (m .count) (m .line .prev) (getD (m .notes) 0 pastLead .note)
+abbrev pub firstSungOf : Sung → ℕ
+firstSungOf m = openingOf (m .count) (m .line .prev) (getD (m .notes) 0 pastLead .note)
 
 -- one note more
 unfoldable pub singOf : List Bool → Ground → ℕ → Beats → Sung → ℕ → Sung
 singOf pool g bar b m i =
-    let t = stepOf pool g (m .line) (placeOf bar b i) (openingOf m) in
+    let t = stepOf pool g (m .line) (placeOf bar b i) (firstSungOf m) in
     record {
       notes = set (m .notes) (m .count) (record { bar = bar; beat = getD (b .at) i nan; note = t .note; vel = t .vel });
       count = m .count + 1;
@@ -80,12 +80,12 @@ unfoldable pub startOf : LeadStyle → Chord → List Bool → ℕ
 startOf style chord pool =
     nearestOf (tonesIn (chord .notes) pool noClass (max (style .lo) (style .hi - 12)) (style .hi)) ((style .lo + style .hi) / 2 + 2)
 
-abbrev pub newLineOf : ℕ → NoiseStream → Line
-newLineOf first s = record { stream = s; from = first; prev = first; head = 0 ∷ 0 ∷ []; heads = 0 }
+abbrev pub openLineOf : ℕ → NoiseStream → Line
+openLineOf first s = record { stream = s; from = first; prev = first; head = 0 ∷ 0 ∷ []; heads = 0 }
 
 -- nothing sung yet
-unfoldable pub openLineOf : ℕ → NoiseStream → Sung
-openLineOf first s = record { notes = replicate 56 noLead; count = 0; line = newLineOf first s }
+unfoldable pub nothingSung : ℕ → NoiseStream → Sung
+nothingSung first s = record { notes = replicate 56 noLead; count = 0; line = openLineOf first s }
 
 -- the first k bars, each over its chord
 unfoldable pub barsTo : List Beats → List Chord → List Bool → LeadStyle → Sung → ℕ → Sung
@@ -94,4 +94,4 @@ barsTo beats bars pool style m (suc k) =
     singBarOf pool (groundOf style (getD bars k pastChord) pool) k (getD beats k pastBeats) (barsTo beats bars pool style m k)
 
 unfoldable pub melodyOf : NoiseStream → List Beats → List Chord → List Bool → LeadStyle → Sung
-melodyOf s beats bars pool style = barsTo beats bars pool style (openLineOf (startOf style (getD bars 0 pastChord) pool) s) 8
+melodyOf s beats bars pool style = barsTo beats bars pool style (nothingSung (startOf style (getD bars 0 pastChord) pool) s) 8

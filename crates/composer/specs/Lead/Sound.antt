@@ -11,7 +11,7 @@ use Rattle.composer.specs.Lead.Beats.{pastBeats}
 use Rattle.composer.specs.Lead.Scale.{fitsOf, snappedOf}
 use Rattle.composer.specs.Lead.Tones.{noClass, tonesIn, listed}
 use Rattle.composer.specs.Lead.Ground.{groundOf}
-use Rattle.composer.specs.Lead.Melody.{pastLead, openingOf, startOf}
+use Rattle.composer.specs.Lead.Melody.{pastLead, firstSungOf, startOf}
 use Rattle.composer.specs.declared.chord.Chord.{Chord}
 use Rattle.composer.specs.declared.style.LeadStyle.{LeadStyle}
 use Rattle.composer.specs.declared.lead.beats.Beats.{Beats}
@@ -60,7 +60,7 @@ Quotable Passing i heads = T true
 -- the notes sung so far
 pub record Good (pool : List Bool) (lo hi : ℕ) (m : Sung) : Type 0 where
   pub size : length (m .notes) ≡ 56
-  pub line : Fit pool lo hi (m .line) (openingOf m)
+  pub line : Fit pool lo hi (m .line) (firstSungOf m)
   pub notes : (i : ℕ) → i < m .count → T (fitsOf pool lo hi (getD (m .notes) i pastLead .note))
 
 -- all that a melody is sung over

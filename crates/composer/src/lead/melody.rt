@@ -3,7 +3,7 @@ ghost use mathlib.Core.Path.{_≡_};
 ghost use Prim.Native.Nat.{_+_, _-_, _≤_, _<_, max};
 ghost use lib.ListN.{length};
 ghost use Rattle.composer.specs.Lead.Tones.{noClass, tonesIn};
-ghost use Rattle.composer.specs.Lead.Melody.{velocityOf, stepOf, firstOf, startOf, newLineOf, melodyOf};
+ghost use Rattle.composer.specs.Lead.Melody.{velocityOf, stepOf, openingOf, startOf, openLineOf, melodyOf};
 ghost use Rattle.composer.specs.Lead.Sound.{Sound, Fit, Ready};
 use crate::chord::Chord;
 use crate::chord::OCTAVE;
@@ -98,7 +98,7 @@ fn step(pool: &[bool], g: Ground, l: Line, p: Place, first: u8) -> LeadStep
 
 // The first note sung, or else the one that the line starts from.
 fn opening(count: usize, start: u8, sung: u8) -> u8
-    ensures { λ r. ⌜ r ≡ firstOf count start sung ⌝ }
+    ensures { λ r. ⌜ r ≡ openingOf count start sung ⌝ }
 {
     if count == 0 { start } else { sung }
 }
@@ -118,7 +118,7 @@ fn start(style: LeadStyle, chord: Chord, pool: &[bool]) -> u8
 
 // The line before its first note.
 fn open_line(first: u8, s: NoiseStream) -> Line
-    ensures { λ r. ⌜ r ≡ newLineOf first s ⌝ }
+    ensures { λ r. ⌜ r ≡ openLineOf first s ⌝ }
 {
     Line {
         stream: s,

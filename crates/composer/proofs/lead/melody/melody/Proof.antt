@@ -7,7 +7,7 @@ use lib.ListN.{getD, replicate}
 use Rattle.composer.specs.Chord.{pastChord}
 use Rattle.composer.specs.Lead.Beats.{pastBeats}
 use Rattle.composer.specs.Lead.Ground.{groundOf}
-use Rattle.composer.specs.Lead.Melody.{noLead, barTo, openLineOf, barsTo, melodyOf}
+use Rattle.composer.specs.Lead.Melody.{noLead, barTo, nothingSung, barsTo, melodyOf}
 use Rattle.composer.specs.declared.lead.line.Line.{Line}
 use Rattle.composer.specs.declared.lead.melody.LeadNote.{LeadNote}
 use Rattle.composer.specs.declared.lead.melody.Sung.{Sung}
@@ -106,7 +106,7 @@ opening-requires : tie.Need-opening-requires Inv-loop2 μ-loop2 Inv-loop μ-loop
 opening-requires c κs = search needs
 
 step-requires : tie.Need-step-requires Inv-loop2 μ-loop2 Inv-loop μ-loop
-unfolding openLineOf
+unfolding nothingSung
 step-requires c κs =
     let a = c .before .before .before .before .before .before .before .before .before .before .before .before .before .before .before .before .args in
     let r = c .before .before .before .before .before .before .before .before .before .before .before .before .before .before .before .before .pre in
@@ -179,7 +179,7 @@ loop-again-2 c =
     )
 
 returns : tie.Need-returns Inv-loop2 μ-loop2 Inv-loop μ-loop
-unfolding melodyOf openLineOf
+unfolding melodyOf nothingSung
 returns c =
     let l = c .before .loop in
     let e : l .k ≡ 8 = omega arith in
