@@ -100,8 +100,8 @@ fn lay_groove(s: NoiseStream, g: Groove, beat_s: f32) -> DrumLane
     }
 }
 
-// Hiphop draws one of its four grooves, sleep draws nothing for its one.
-pub fn drums(s: NoiseStream, style: Style, beat_s: f32) -> DrumLane
+// The hits of eight bars, in the order drawn. Hiphop draws one of its four grooves, sleep draws nothing for its one.
+pub(crate) fn drums(s: NoiseStream, style: Style, beat_s: f32) -> DrumLane
     ensures { λ r. ⌜ r ≡ drumsOf s style «beat_s» ⌝ }
 {
     match style {

@@ -130,7 +130,7 @@ fn chords(key: u8, row: [u8; 8]) -> [Chord; 8]
 }
 
 // A harmony of the style, from three draws: major or minor, the loop, the key.
-pub fn harmony_of(s: NoiseStream, style: Style) -> HarmonyDraw
+pub(crate) fn harmony_of(s: NoiseStream, style: Style) -> HarmonyDraw
     ensures { λ r. ⌜ r ≡ harmonyOf s style ⌝ }
 {
     let share = major_share(style);

@@ -22,7 +22,7 @@ pub struct Drawn {
 }
 
 // The spread from lo up to hi.
-pub fn between(lo: f32, hi: f32) -> Spread
+pub(crate) fn between(lo: f32, hi: f32) -> Spread
     ensures { λ r. ⌜ r ≡ betweenOf lo hi ⌝ }
 {
     Spread {

@@ -1,4 +1,4 @@
-// The two styles, and every knob their songs are written with.
+// The two styles, and every setting their songs are written with.
 ghost use mathlib.Core.Path.{_≡_};
 ghost use Rattle.composer.specs.Style.{styleNumberOf, oddsOf, majorShareOf, bpmOf, leadStyleOf, keysStyleOf, bassStyleOf};
 use crate::spread::Spread;
@@ -82,7 +82,7 @@ pub struct BassStyle {
 }
 
 // The share of songs over a major loop.
-pub fn major_share(style: Style) -> f32
+pub(crate) fn major_share(style: Style) -> f32
     ensures { λ r. ⌜ r ≡ majorShareOf style ⌝ }
 {
     match style {
@@ -92,7 +92,7 @@ pub fn major_share(style: Style) -> f32
 }
 
 // The tempo's window, in beats per minute.
-pub fn bpm(style: Style) -> Spread
+pub(crate) fn bpm(style: Style) -> Spread
     ensures { λ r. ⌜ r ≡ bpmOf style ⌝ }
 {
     match style {
@@ -102,7 +102,7 @@ pub fn bpm(style: Style) -> Spread
 }
 
 // How a style writes its lead.
-pub fn lead_style(style: Style) -> LeadStyle
+pub(crate) fn lead_style(style: Style) -> LeadStyle
     ensures { λ r. ⌜ r ≡ leadStyleOf style ⌝ }
 {
     match style {
@@ -132,7 +132,7 @@ pub fn lead_style(style: Style) -> LeadStyle
 }
 
 // How a style writes its keys.
-pub fn keys_style(style: Style) -> KeysStyle
+pub(crate) fn keys_style(style: Style) -> KeysStyle
     ensures { λ r. ⌜ r ≡ keysStyleOf style ⌝ }
 {
     let drawn = between(0.28, 0.38);
@@ -159,7 +159,7 @@ pub fn keys_style(style: Style) -> KeysStyle
 }
 
 // How a style writes its bass.
-pub fn bass_style(style: Style) -> BassStyle
+pub(crate) fn bass_style(style: Style) -> BassStyle
     ensures { λ r. ⌜ r ≡ bassStyleOf style ⌝ }
 {
     match style {

@@ -21,7 +21,7 @@ fn rounded(x: f32) -> u64
 }
 
 // The tempo in beats per minute, a whole number of the style's window, from one draw.
-pub fn tempo(s: NoiseStream, style: Style) -> Drawn
+pub(crate) fn tempo(s: NoiseStream, style: Style) -> Drawn
     ensures { λ r. ⌜ r ≡ tempoOf s style ⌝ }
 {
     let window = bpm(style);

@@ -58,7 +58,7 @@ fn voice_by(style: Style, u: f32) -> LeadVoice
 }
 
 // The voice of a song in the style, from one draw.
-pub fn lead_voice(s: NoiseStream, style: Style) -> VoiceDraw
+pub(crate) fn lead_voice(s: NoiseStream, style: Style) -> VoiceDraw
     ensures { λ r. ⌜ r ≡ leadVoiceOf s style ⌝ }
 {
     let d = s.unit();

@@ -16,7 +16,7 @@ pub(crate) fn put_u8(buf: &mut [u8], at: usize, x: u8) -> usize
     at + 1
 }
 
-pub(crate) fn put_u16(buf: &mut [u8], at: usize, x: u16) -> usize
+fn put_u16(buf: &mut [u8], at: usize, x: u16) -> usize
     requires { ⌜ at + 2 ≤ length (now buf) ⌝ }
     ensures { λ r. ⌜ Wrote (now (buf .entry)) (now (buf .exit)) at r 2 (be16 x) ⌝ }
 {
@@ -31,7 +31,7 @@ fn turned(x: u32) -> u32
     ((x % 256 * 256 + x / 256 % 256) * 256 + x / 65536 % 256) * 256 + x / 16777216
 }
 
-pub(crate) fn put_u32(buf: &mut [u8], at: usize, x: u32) -> usize
+fn put_u32(buf: &mut [u8], at: usize, x: u32) -> usize
     requires { ⌜ at + 4 ≤ length (now buf) ⌝ }
     ensures { λ r. ⌜ Wrote (now (buf .entry)) (now (buf .exit)) at r 4 (be32 x) ⌝ }
 {

@@ -15,7 +15,7 @@ use streams::draw::chance;
 use streams::stream::NoiseStream;
 
 // The lowest note of the bass, but for a pickup: G1.
-pub const BASS_LOW: u8 = 31;
+const BASS_LOW: u8 = 31;
 
 // How far behind the beat a note lands, in seconds.
 const BASS_LAG: Spread = Spread {
