@@ -78,7 +78,7 @@ composedOf style seed =
     let voice = leadVoiceOf (streamOf Stage.LeadVoice seed) style in
     songBy style h t lead keys drums bass voice
 
--- ---- a refusal, beside nothing
+-- ---- what stands beside a refusal: zero throughout
 abbrev pub noScore : Score
 noScore = record {
   style = Style.Hiphop;
@@ -103,6 +103,7 @@ refusedOf r = record {
   counters = record { harmony = 0; tempo = 0; lead = 0; keys = 0; drums = 0; bass = 0; voice = 0 };
 }
 
+-- asked of 0 and 1 alone
 abbrev pub styleBy : ℕ → Style
 styleBy n = cond (eqb n 0) Style.Hiphop Style.Sleep
 

@@ -48,7 +48,7 @@ placedShell c = record { third = getD (c .notes) 1 0; seventh = getD (c .notes) 
 abbrev pub upperOf : Bool → ℕ → ℕ → ℕ
 upperOf ninth seventh root = cond ninth (inOctaveFrom seventh ((root + 2) % 12)) seventh
 
--- ---- the knobs
+-- ---- the settings
 -- 0.53
 abbrev pub swingKeys : Float
 swingKeys = ofBits binary32 0x3f07_ae14

@@ -1,4 +1,4 @@
--- The two styles, and every knob their songs are written with. Definitions only.
+-- The two styles, and every setting their songs are written with. Definitions only.
 use mathlib.Core.Bool.{false}
 use Prim.Native.Nat.{ℕ}
 use lib.Ieee.{Float, binary32, ofBits}

@@ -17,5 +17,6 @@ barSOf beatS = mul binary32 beatS beatsPerBar
 abbrev pub swingDelayOf : Float → Float → Float
 swingDelayOf s eighthS = mul binary32 (sub binary32 s (ofBits binary32 0x3f00_0000)) eighthS
 
+-- t, or 0 where t is not above it
 abbrev pub heldAtZero : Float → Float
 heldAtZero t = cond (lt (ofBits binary32 0) t) t (ofBits binary32 0)

@@ -137,7 +137,7 @@ fn refused(r: Refusal) -> Composed
     }
 }
 
-// Style 0 or 1 by its number.
+// Style 0 or 1 by its number; no other is asked for.
 fn style_by(number: u8) -> Style
     ensures { λ r. ⌜ r ≡ styleBy number ⌝ }
 {

@@ -25,7 +25,7 @@ use streams::stream::NoiseStream;
 // A ninth's pitch class above the root's: a whole tone.
 const NINTH: u8 = 2;
 
-// The keys' swing: their own knob.
+// The keys' swing, their own.
 const SWING_KEYS: f32 = 0.53;
 
 // The comp's lag behind the grid, in seconds.
@@ -122,7 +122,7 @@ fn grid_at(bar: u8, e: u8, beat_s: f32) -> f32
     }
 }
 
-// The shell at `at`, its upper voice rolled: a hand rolls the dyad, a sequencer stamps it.
+// The shell at `at`, its upper voice a little later.
 fn dyad_at(s: NoiseStream, shell: Shell, root_pc: u8, k: KeysStyle, bar: u8, at: f32) -> Dyad
     requires { ⌜ (shell .seventh ≤ 244) × («root_pc» < 12) ⌝ }
     ensures { λ r. ⌜ r ≡ dyadOf s shell «root_pc» k bar at ⌝ }

@@ -66,7 +66,8 @@ fn heard(hits: [Hit; 98], n: usize) -> KickTimes
     t
 }
 
-// Every kick's time in the loop, in order; a count of more than 98 hits is refused with 4.
+// The times of the kicks among the first `hit_count` hits, ascending: equal ones kept, -0 before 0, a NaN last. A
+// count of more than 98 is refused with 4, and then there are none.
 pub fn kicks(score: Score) -> KicksAnswer
     ensures { λ r. ⌜ r ≡ kicksOf score ⌝ }
 {
@@ -92,7 +93,7 @@ pub fn kicks(score: Score) -> KicksAnswer
     }
 }
 
-// The score with its drums gone, so that no lane ducks under a kick nobody hears.
+// The score with no hits: their count 0, their entries zero, the rest kept. It refuses nothing.
 pub fn unbeaten(score: Score) -> Score
     ensures { λ r. ⌜ r ≡ unbeatenOf score ⌝ }
 {

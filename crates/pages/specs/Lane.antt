@@ -50,7 +50,7 @@ eventsOf s Lane.Bass = map noteBytes (take (s .«bass_count») (s .bass))
 abbrev pub runOf : Run → List (List ℕ) → List (List ℕ)
 runOf run es = take (run .to - run .from) (drop (run .from) es)
 
--- no lane has more than 128 events
+-- a run stands in a lane, and no lane has more than 128 events
 abbrev pub Held : Run → Type 0
 Held run = (run .from ≤ run .to) × (run .to ≤ 128)
 

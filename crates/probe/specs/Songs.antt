@@ -1,4 +1,4 @@
--- The numbers on a song's sheet, summed. Definitions only.
+-- The numbers on a song's sheet, but for its style and seed, summed. Definitions only.
 use mathlib.Core.List.{List}
 use Prim.Native.Nat.{ℕ, zero, suc, _+_, _<_}
 use lib.ListN.{getD}

@@ -77,6 +77,7 @@ fn drawn(kind: Kind, s: NoiseStream) -> WordDraw
     }
 }
 
+// Draws of one kind over the whole of `out`; the counter afterwards.
 fn fill(kind: Kind, seed: u64, counter: u64, out: &mut [u64]) -> u64
     ensures { λ r. ⌜ Ran kind (streamAt seed counter) (now (out .entry)) (now (out .exit)) r ⌝ }
 {
@@ -94,7 +95,7 @@ fn fill(kind: Kind, seed: u64, counter: u64, out: &mut [u64]) -> u64
     s.counter
 }
 
-// The draws as words.
+// Each place of `out` gets the next word after `counter` draws; the counter afterwards.
 #[no_mangle]
 pub extern "C" fn probe_words(seed: u64, counter: u64, out: &mut [u64]) -> u64
     ensures { λ r. ⌜ Ran Kind.Word (streamAt seed counter) (now (out .entry)) (now (out .exit)) r ⌝ }
@@ -102,7 +103,7 @@ pub extern "C" fn probe_words(seed: u64, counter: u64, out: &mut [u64]) -> u64
     fill(Kind::Word, seed, counter, out)
 }
 
-// The draws as units, by their bits.
+// The same of units, by their bits.
 #[no_mangle]
 pub extern "C" fn probe_units(seed: u64, counter: u64, out: &mut [u64]) -> u64
     ensures { λ r. ⌜ Ran Kind.Unit (streamAt seed counter) (now (out .entry)) (now (out .exit)) r ⌝ }
@@ -110,7 +111,7 @@ pub extern "C" fn probe_units(seed: u64, counter: u64, out: &mut [u64]) -> u64
     fill(Kind::Unit, seed, counter, out)
 }
 
-// Picks of n.
+// The same of picks of n.
 #[no_mangle]
 pub extern "C" fn probe_picks(seed: u64, counter: u64, n: u8, out: &mut [u64]) -> u64
     ensures { λ r. ⌜ Ran (Kind.Pick n) (streamAt seed counter) (now (out .entry)) (now (out .exit)) r ⌝ }
@@ -118,7 +119,7 @@ pub extern "C" fn probe_picks(seed: u64, counter: u64, n: u8, out: &mut [u64]) -
     fill(Kind::Pick(n), seed, counter, out)
 }
 
-// Chances of p, 1 for yes.
+// The same of chances of p, 1 for yes.
 #[no_mangle]
 pub extern "C" fn probe_chances(seed: u64, counter: u64, p: f32, out: &mut [u64]) -> u64
     ensures { λ r. ⌜ Ran (Kind.Chance p) (streamAt seed counter) (now (out .entry)) (now (out .exit)) r ⌝ }
@@ -126,7 +127,7 @@ pub extern "C" fn probe_chances(seed: u64, counter: u64, p: f32, out: &mut [u64]
     fill(Kind::Chance(p), seed, counter, out)
 }
 
-// Coins, 1 for yes.
+// The same of coins, 1 for yes.
 #[no_mangle]
 pub extern "C" fn probe_coins(seed: u64, counter: u64, out: &mut [u64]) -> u64
     ensures { λ r. ⌜ Ran Kind.Coin (streamAt seed counter) (now (out .entry)) (now (out .exit)) r ⌝ }

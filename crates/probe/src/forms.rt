@@ -227,7 +227,7 @@ pub extern "C" fn probe_made_beatless(
     beatless_word(f, k)
 }
 
-// The number of what the seeds' forms span.
+// The number of what the seeds' forms span: 1, 2 or 0, as `spans` has them.
 #[no_mangle]
 pub extern "C" fn probe_spans(seeds: &[u64]) -> u8
     ensures { λ r. ⌜ r ≡ spansNumberOf (spansOf (now (seeds .entry))) ⌝ }

@@ -125,7 +125,8 @@ fn score_by(words: &[u64]) -> Score
     score
 }
 
-// Word i of the kicks of the seed's score in place i of `out`, for each of its places.
+// Word i of the kicks of the seed's score in place i of `out`, for each of its places. An unknown style has the score
+// of zeros, and so no kicks.
 #[no_mangle]
 pub extern "C" fn probe_kicks(style: u8, seed: u64, out: &mut [u64])
     ensures { λ r. ⌜ now (out .exit) ≡ listTo (kicksWordOf (kicksOf (composeOf style seed .score))) (length (now (out .entry))) ⌝ }
@@ -137,7 +138,7 @@ pub extern "C" fn probe_kicks(style: u8, seed: u64, out: &mut [u64])
 }
 
 // The same of a score with other hits: `words` has their count, then two words for each of 98 hits,
-// the bits of its time and its drum's number. What is missing is 0; a number of no drum is a kick.
+// the bits of its time, modulo 2^32, and its drum's number. What is missing is 0; a number of no drum is a kick.
 #[no_mangle]
 pub extern "C" fn probe_made_kicks(words: &[u64], out: &mut [u64])
     ensures { λ r. ⌜ now (out .exit) ≡ listTo (kicksWordOf (kicksOf (scoreBy (now (words .entry))))) (length (now (out .entry))) ⌝ }

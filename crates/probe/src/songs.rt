@@ -206,7 +206,8 @@ fn form_sum(f: Form) -> u64
     ends_sum(f) + plays_sum(f)
 }
 
-// The numbers on the sheet of a seed's song, summed, each f32 by its bits. An unknown style has the sum 0.
+// The numbers on the sheet of a seed's song, but for its style and seed, summed, each f32 by its bits. An unknown
+// style has the sum 0.
 #[no_mangle]
 pub extern "C" fn probe_song(style: u8, seed: u64) -> u64
     ensures { λ r. ⌜ r ≡ songSum style seed ⌝ }

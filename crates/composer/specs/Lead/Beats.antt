@@ -37,7 +37,7 @@ leftAt xs k i = cond (ltb i k) (getD xs i nan) (getD xs (i + 1) nan)
 abbrev pub removeOf : Beats → ℕ → Beats
 removeOf b k = beatsOf (without k (listOf b))
 
--- a float without its sign
+-- d, or -d where d is below 0
 abbrev pub sizeOf : Float → Float
 sizeOf d = cond (lt d zero32) (neg d) d
 

@@ -12,9 +12,11 @@ use Rattle.composer.specs.declared.lead.role.Role.{Role}
 use Rattle.composer.specs.declared.lead.role.Role.the-variants.{Quote, Close, Peak, Resolve, ChordTone, Passing}
 use Rattle.composer.specs.declared.lead.role.RoleDraw.{RoleDraw}
 
+-- bar 4, where the answer begins, repeats the head
 abbrev pub quotesOf : Place → ℕ → Bool
 quotesOf p heads = eqb (p .bar) 4 && ltb (p .i) heads && not (p .last)
 
+-- the first note of bar 5
 abbrev pub peaksOf : Place → Bool
 peaksOf p = eqb (p .bar) 5 && eqb (p .i) 0
 

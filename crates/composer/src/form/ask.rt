@@ -62,8 +62,9 @@ fn fill(plays: [Plays; 64], a: u8, n: u16) -> [Plays; 64]
     out
 }
 
-// The form that a band with no beat plays: its body whole, no edge, no dip. A form whose parts are not its
-// bars, or are more than 64, is refused with 4 and handed back.
+// The form that a band with no beat plays: its body plays all, its edges are plain, there is no dip, and the bars of
+// intro and outro keep their plays. A form whose parts are not its bars, or are more than 64, is refused with 4 and
+// handed back.
 pub fn beatless(f: Form) -> FormAnswer
     ensures { λ r. ⌜ r ≡ beatlessOf f ⌝ }
 {

@@ -13,7 +13,7 @@ pub enum SpansAnswer {
 }
 
 impl SpansAnswer {
-    // Its number.
+    // Its number: 1, 2 and 0.
     pub fn number(self) -> u8
         ensures { λ r. ⌜ r ≡ spansNumberOf self ⌝ }
     {
@@ -63,7 +63,8 @@ fn spans_by(mutes: bool, moves: bool) -> SpansAnswer
     }
 }
 
-// Whether the forms of the seeds span a form, or what none of them does: mute a layer, then move an edge or dip.
+// NoneMutes if no form of the seeds has a bar with a silent layer, as where there are no seeds; else NoneMoves if none
+// has an edge or a dip; else Spans. It refuses nothing.
 pub fn spans(seeds: &[u64]) -> SpansAnswer
     ensures { λ r. ⌜ r ≡ spansOf (now (seeds .entry)) ⌝ }
 {

@@ -44,7 +44,7 @@ pub(crate) fn remove(b: Beats, k: usize) -> Beats
     Beats { at: at, n: n }
 }
 
-// A float without its sign.
+// d, or -d where d is below 0.
 fn size(d: f32) -> f32
     ensures { λ r. ⌜ r ≡ sizeOf d ⌝ }
 {

@@ -1,4 +1,4 @@
-// The lofi push.
+// The push: a note that anticipates its beat.
 ghost use mathlib.Core.Path.{_≡_};
 ghost use Rattle.composer.specs.Lead.Push.{pushOf};
 use crate::lead::beats::Beats;
@@ -17,7 +17,7 @@ pub struct BeatsDraw {
 // The chance that an on-beat note lands a sixteenth ahead.
 const PUSH_P: f32 = 0.15;
 
-// The lofi push of one beat.
+// An on-beat note may land a sixteenth ahead; any other draws nothing.
 pub(crate) fn push(s: NoiseStream, beat: f32) -> Drawn
     ensures { λ r. ⌜ r ≡ pushOf s beat ⌝ }
 {

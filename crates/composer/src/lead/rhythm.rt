@@ -33,7 +33,7 @@ const FALLBACK_THIRD: Beats = Beats {
     n: 1,
 };
 
-// A take with fewer than two notes has lost its singable identity: it gets the spare bar.
+// The spare bar where the statement has too few notes, else the one drawn.
 fn spared(few: bool, spare: Beats, drawn: Beats) -> Beats
     requires { ⌜ (spare .n ≤ 7) × (drawn .n ≤ 7) ⌝ }
     ensures { λ r. ⌜ r ≡ cond few spare drawn ⌝ }
