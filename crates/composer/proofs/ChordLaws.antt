@@ -1,12 +1,16 @@
 -- Every chord of the grammar, in every key: its root in 48 to 59, and third, fifth and seventh above. Assumes nothing.
-use mathlib.Core.Path.{_≡_, refl}
+use mathlib.Core.Path.{_≡_, refl, sym, ap, subst}
 use mathlib.Core.Bool.{Bool, _&&_}
-use Prim.Native.Nat.{ℕ, _+_, _%_, _≤_, _<_}
+use mathlib.Core.List.{List, [], _∷_}
+use Prim.Native.Nat.{ℕ, zero, suc, _+_, _%_, _≤_, _<_}
 use native.Mathlib.Omega.{arith}
 use lib.Dec.{leb, leb→le}
+use lib.ListN.{length, getD}
 use mir.Facts.{and-yes}
 use Rattle.laws.proofs.Runs.{every-at}
-use Rattle.composer.specs.Chord.{inOctaveFrom, degreeAt, voicedOf, RootPosition}
+use Rattle.composer.specs.Chord.{rootClassOf, fifthClassOf, inOctaveFrom, degreeAt, voicedOf, RootPosition}
+use Rattle.composer.specs.Range.{Within}
+use Rattle.composer.specs.declared.chord.Chord.{Chord}
 use Rattle.composer.specs.declared.chord.Degree.{Degree}
 
 -- a pitch class, a third and a seventh
@@ -61,5 +65,29 @@ voiced-root d key h =
       most = omega (arith, e, lt);
       third-within = (s .third-least, s .third-most);
       seventh-within = (s .seventh-least, s .seventh-most);
-      class = omega (arith, e, lt);
     }
+
+-- the first note's class is the degree's in the key
+pub voiced-class : (d key : ℕ) → rootClassOf (voicedOf (degreeAt d) key) ≡ (degreeAt d .«root_pc» + key) % 12
+voiced-class d key =
+    let pc = (degreeAt d .«root_pc» + key) % 12 in
+    let lt : pc < 12 = omega arith in
+    omega (arith, octave-class pc lt)
+
+-- ---- a chord in root position: four notes, from 48 to 70
+module _ (c : Chord) (r : RootPosition c) where
+  pub root-size : length (c .notes) ≡ 4
+  root-size = ap length (r .notes)
+
+  pub root-fifth : (rootClassOf c + 7) % 12 ≡ fifthClassOf c
+  root-fifth = rw (r .notes) (omega arith)
+
+  placed-within : (k : ℕ) → k < 4 → Within 48 70 (getD (r .root ∷ (r .root + r .third) ∷ (r .root + 7) ∷ (r .root + r .seventh) ∷ []) k 0)
+  placed-within zero h = record { least = r .least; most = omega (arith, r .most) }
+  placed-within (suc zero) h = record { least = omega (arith, r .least); most = omega (arith, r .most, r .third-within .1) }
+  placed-within (suc (suc zero)) h = record { least = omega (arith, r .least); most = omega (arith, r .most) }
+  placed-within (suc (suc (suc zero))) h = record { least = omega (arith, r .least); most = omega (arith, r .most, r .seventh-within .1) }
+  placed-within (suc (suc (suc (suc k)))) h = absurd (omega arith)
+
+  pub root-within : (k : ℕ) → k < 4 → Within 48 70 (getD (c .notes) k 0)
+  root-within k h = subst (λ (notes : List ℕ). Within 48 70 (getD notes k 0)) (sym (r .notes)) (placed-within k h)

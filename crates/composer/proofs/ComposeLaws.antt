@@ -1,22 +1,27 @@
 -- Any other style is refused, and what holds of every song: each stage's laws, at its own stream. Assumes nothing.
 use mathlib.Core.Path.{_≡_, refl, sym, ap, subst}
 use mathlib.Core.Bool.{Bool, true, false}
-use Prim.Native.Nat.{ℕ, zero, suc, _≤_, _<_}
+use mathlib.Core.List.{List, [], _∷_, _++_, map}
+use Prim.Native.Nat.{ℕ, zero, suc, _-_, _≤_, _<_}
 use native.Mathlib.Omega.{arith}
 use lib.Ieee.{Float}
-use lib.ListN.{length}
+use lib.ListN.{length, getD, replicate}
 use Rattle.laws.specs.Lists.{pad}
+use Rattle.laws.proofs.Lists.{replicate-at, pad-past}
 use Rattle.streams.specs.Stage.{streamOf}
 use Rattle.streams.specs.declared.stage.Stage.{Stage}
 use Rattle.streams.specs.declared.stream.NoiseStream.{NoiseStream}
 use Rattle.composer.specs.Bass.{bassOf}
+use Rattle.composer.specs.Chord.{pastChord}
 use Rattle.composer.specs.Compose.{beatSOf, songBy, composedOf, refusedOf, styleBy, composeOf, composeAnswered}
 use Rattle.composer.specs.Drums.{drumsOf}
-use Rattle.composer.specs.Harmony.{melodyPcsOf, harmonyOf, Tonal}
+use Rattle.composer.specs.Harmony.{pentatonic, colour, classIn, classesOf, melodyPcsOf, harmonyOf, Tonal}
 use Rattle.composer.specs.Keys.{keysOf}
 use Rattle.composer.specs.Lead.{leadOf}
 use Rattle.composer.specs.Promise.{LanesPromise, BarsPromise, EventsPromise, ScorePromise, DrawsPromise, SongPromise}
+use Rattle.composer.specs.Range.{Within, RangePromise}
 use Rattle.composer.specs.Refusal.{Refuses}
+use Rattle.composer.specs.Style.{leadStyleOf}
 use Rattle.composer.specs.Tempo.{beatsOf, tempoOf}
 use Rattle.composer.specs.Voice.{leadVoiceOf}
 use Rattle.composer.specs.declared.bass.BassLane.{BassLane}
@@ -32,15 +37,19 @@ use Rattle.composer.specs.declared.score.Score.{Score}
 use Rattle.composer.specs.declared.spread.Drawn.{Drawn}
 use Rattle.composer.specs.declared.style.Style.{Style}
 use Rattle.composer.specs.declared.voice.VoiceDraw.{VoiceDraw}
+use Rattle.composer.proofs.ChordLaws.{root-size, root-within}
 use Rattle.composer.proofs.DrumsLaws.{drums-laid, drums-occur, drums-few, drums-counter}
 use Rattle.composer.proofs.HarmonyLaws.{harmony-tonal, harmony-count, harmony-counter, tonal-root}
 use Rattle.composer.proofs.PlainLaws.{plain-numbers}
+use Rattle.composer.proofs.RangeLaws.{tempo-between, beat-in}
 use Rattle.composer.proofs.TempoLaws.{tempo-within, tempo-counter}
 use Rattle.composer.proofs.VoiceLaws.{voice-counter}
-use Rattle.composer.proofs.bass.PromiseLaws.{bass-laid, bass-occur, bass-few, bass-sounds}
+use Rattle.composer.proofs.bass.PromiseLaws.{bass-laid, bass-occur, bass-few, bass-sounds, bass-within}
 use Rattle.composer.proofs.keys.DrawLaws.{keys-counter}
 use Rattle.composer.proofs.keys.NoteLaws.{keys-laid, keys-few}
+use Rattle.composer.proofs.keys.PlainLaws.{keys-within}
 use Rattle.composer.proofs.lead.LeadLaws.{lead-laid, lead-few, lead-fits}
+use Rattle.composer.proofs.lead.ScaleLaws.{has-occurs}
 
 pub unknown-style : (style seed : ℕ) → 2 ≤ style → composeOf style seed ≡ refusedOf Refusal.UnknownStyle
 unknown-style zero seed h = absurd (omega arith)
@@ -84,6 +93,24 @@ unfolding melodyPcsOf pad
 pcs-size key true = refl
 pcs-size key false = refl
 
+class-lt : (key n : ℕ) (pcs : List ℕ) (k : ℕ) → getD (map (classIn key) pcs ++ replicate n 0) k 0 < 12
+class-lt key n [] k = rw (replicate-at {A = ℕ} n k 0) (omega arith)
+class-lt key n (x ∷ pcs) zero = omega arith
+class-lt key n (x ∷ pcs) (suc k) = class-lt key n pcs k
+
+pcs-classes : (key : ℕ) (major : Bool) (k : ℕ) → getD (melodyPcsOf key major .pcs) k 0 < 12
+unfolding melodyPcsOf pad
+pcs-classes key major = class-lt key (6 - length (classesOf key major)) (pentatonic ++ colour major)
+
+pcs-rest : (key : ℕ) (major : Bool) (k : ℕ) → melodyPcsOf key major .n ≤ k → getD (melodyPcsOf key major .pcs) k 0 ≡ 0
+unfolding melodyPcsOf
+pcs-rest key major = pad-past {A = ℕ} 0 6 (classesOf key major)
+
+-- either style's window
+lead-window : (style : Style) (n : ℕ) → leadStyleOf style .lo ≤ n → n ≤ leadStyleOf style .hi → Within 60 81 n
+lead-window Style.Hiphop n l m = record { least = omega arith; most = omega arith }
+lead-window Style.Sleep n l m = record { least = omega arith; most = omega arith }
+
 module _ (style : Style) (seed : ℕ) where
   abbrev harmony : Harmony
   harmony = harmonyOf (streamOf Stage.Harmony seed) style .harmony
@@ -112,6 +139,18 @@ module _ (style : Style) (seed : ℕ) where
     bass = bass-few (streamOf Stage.Bass seed) harmony style beatS tonal;
   }
 
+  range-promise : RangePromise (composedOf style seed .score)
+  unfolding composedOf songBy tempoOf
+  range-promise =
+      let beat = beat-in (beatsOf (streamOf Stage.Tempo seed) style) (tempo-between (streamOf Stage.Tempo seed) style) in
+      record {
+        chord-size = λ b h. root-size (getD (harmony .bars) b pastChord) (tonal-root harmony tonal b h);
+        chords = λ b k h. root-within (getD (harmony .bars) b pastChord) (tonal-root harmony tonal b h) k;
+        lead = λ i h. let f = lead-fits (streamOf Stage.Lead seed) harmony tonal style beatS i h in lead-window style _ (f .0) (f .1);
+        keys = keys-within (streamOf Stage.Keys seed) harmony tonal style beatS beat;
+        bass = bass-within (streamOf Stage.Bass seed) harmony style beatS tonal;
+      }
+
   score-promise : ScorePromise style (composedOf style seed .score) (composedOf style seed .scale)
   unfolding composedOf songBy tempoOf
   score-promise =
@@ -127,13 +166,16 @@ module _ (style : Style) (seed : ℕ) where
         lanes = lanes-promise;
         bars = bars-promise;
         plain = plain-numbers style seed;
+        range = range-promise;
         hit-in-each = drums-occur (streamOf Stage.Drums seed) style beatS;
         bass-in-each = bass-occur (streamOf Stage.Bass seed) harmony style beatS tonal;
-        lead-sings = λ i h. let f = lead-fits (streamOf Stage.Lead seed) harmony tonal style beatS i h in record { least = f .0; most = f .1; class = f .2 };
+        lead-sings = λ i h. let f = lead-fits (streamOf Stage.Lead seed) harmony tonal style beatS i h in record { least = f .0; most = f .1; class = has-occurs (harmony .scale .n) (harmony .scale .pcs) _ (f .2) };
         bass-sounds = bass-sounds (streamOf Stage.Bass seed) harmony style beatS tonal;
         scale-least = subst (λ (x : Scale). 5 ≤ x .n) (sym (tonal .scale)) (pcs-least (tonal .key) (tonal .major));
         scale-most = subst (λ (x : Scale). x .n ≤ 6) (sym (tonal .scale)) (pcs-most (tonal .key) (tonal .major));
         scale-size = subst (λ (x : Scale). length (x .pcs) ≡ 6) (sym (tonal .scale)) (pcs-size (tonal .key) (tonal .major));
+        scale-classes = subst (λ (x : Scale). (k : ℕ) → getD (x .pcs) k 0 < 12) (sym (tonal .scale)) (pcs-classes (tonal .key) (tonal .major));
+        scale-rest = subst (λ (x : Scale). (k : ℕ) → x .n ≤ k → getD (x .pcs) k 0 ≡ 0) (sym (tonal .scale)) (pcs-rest (tonal .key) (tonal .major));
       }
 
   draws-promise : DrawsPromise style (composedOf style seed .score) (composedOf style seed .counters)

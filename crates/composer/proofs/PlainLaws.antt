@@ -1,5 +1,8 @@
 -- Every f32 of a song's score is a plain number, at every seed and in both styles. Assumes nothing.
 use Prim.Native.Nat.{ℕ}
+use lib.IntN.{pos}
+use lib.Ieee.{binary32}
+use lib.Ieee.Fits.{ofInt-fits}
 use Rattle.laws.specs.Floats.{f32Of}
 use Rattle.streams.specs.Stage.{streamOf}
 use Rattle.streams.specs.declared.stage.Stage.{Stage}
@@ -26,8 +29,9 @@ plain-numbers style seed =
     let beat = beat-in n tempo in
     record {
       bpm = tempo-in n tempo;
+      bpm-fits = ofInt-fits binary32 (pos n);
       lead = lead-plain beatS beat (streamOf Stage.Lead seed) h tonal style;
-      keys = keys-plain (streamOf Stage.Keys seed) h style beatS beat;
+      keys = keys-plain (streamOf Stage.Keys seed) h tonal style beatS beat;
       hits = drums-plain beatS beat (streamOf Stage.Drums seed) style;
       bass = bass-plain (streamOf Stage.Bass seed) h tonal style n tempo;
     }

@@ -4,6 +4,7 @@ use Prim.Native.Nat.{ℕ, _/_, _^_, _≤_}
 use native.Mathlib.Omega.{arith}
 use lib.Dec.{T, lit≤}
 use lib.Ieee.{Float, binary32, add, sub, mul, div, ofInt, ofBits, le}
+use lib.Ieee.Fits.{add-fits}
 use mir.Facts.{and-yes}
 use Rattle.laws.specs.Floats.{f32Of, nonneg, In, Size}
 use Rattle.laws.proofs.Bounds.{here, wider, add-in, mul-in, div-in, whole-in}
@@ -13,6 +14,7 @@ use Rattle.streams.specs.declared.stream.NoiseStream.{NoiseStream}
 use Rattle.streams.proofs.StreamLaws.{unit-is, unit-in}
 use Rattle.composer.specs.Compose.{beatSOf}
 use Rattle.composer.specs.Note.{zero32}
+use Rattle.composer.specs.Plain.{Fits32}
 use Rattle.composer.specs.Spread.{drawOf, afterOf, jitterOf}
 use Rattle.composer.specs.Tempo.{beatsOf}
 use Rattle.composer.specs.Timing.{beatsPerBar, barSOf, swingDelayOf}
@@ -68,6 +70,15 @@ pub after-in : (s : NoiseStream) (p : Spread) {tl th t bl bh sl sh : Float} → 
     → In (add binary32 (add binary32 tl bl) (mul binary32 sl (f32Of 0))) (add binary32 (add binary32 th bh) (mul binary32 sh (f32Of 1))) (afterOf p t s .value)
 unfolding afterOf
 after-in s p i b w m n o = add-in binary32 (add-in binary32 i b m) (mul-in binary32 w (unit-range s) n) o
+
+-- a draw is a value of f32
+pub draw-fits : (p : Spread) (s : NoiseStream) → Fits32 (drawOf p s .value)
+unfolding drawOf
+draw-fits p s = add-fits binary32 (p .base) (mul binary32 (p .span) (unitOf s .value))
+
+pub after-fits : (p : Spread) (t : Float) (s : NoiseStream) → Fits32 (afterOf p t s .value)
+unfolding afterOf
+after-fits p t s = add-fits binary32 (add binary32 t (p .base)) (mul binary32 (p .span) (unitOf s .value))
 
 -- a jitter of either sign
 pub jitter-size : (s : NoiseStream) (j : Jitter) → T (nonneg (j .early)) → T (nonneg (j .width)) → T (nonneg (add binary32 (f32Of 1) (j .early)))

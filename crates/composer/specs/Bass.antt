@@ -4,7 +4,7 @@ use Prim.Native.Nat.{ℕ, zero, suc, _+_, _%_}
 use lib.ListN.{getD, replicate}
 use lib.Ieee.{Float}
 use Rattle.streams.specs.declared.stream.NoiseStream.{NoiseStream}
-use Rattle.composer.specs.Chord.{pastChord}
+use Rattle.composer.specs.Chord.{rootClassOf, pastChord}
 use Rattle.composer.specs.Note.{noNote}
 use Rattle.composer.specs.Style.{bassStyleOf}
 use Rattle.composer.specs.Bass.Rhythm.{pastSteps, bassRhythmsOf}
@@ -26,8 +26,8 @@ partOf chords rhythms b =
     let next = (b + 1) % 8 in
     record {
       bar = b;
-      «root_pc» = getD chords b pastChord .«root_pc»;
-      «next_pc» = getD chords next pastChord .«root_pc»;
+      «root_pc» = rootClassOf (getD chords b pastChord);
+      «next_pc» = rootClassOf (getD chords next pastChord);
       steps = getD rhythms b pastSteps;
       «next_step» = getD (getD rhythms next pastSteps .at) 0 0;
     }

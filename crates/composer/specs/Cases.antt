@@ -5,7 +5,7 @@ use Prim.Native.Nat.{ℕ, zero, suc}
 use lib.Ieee.{Float, binary32, ofBits, toBits}
 use Rattle.laws.specs.Floats.{roundOf}
 use Rattle.streams.specs.Cases.{Case, case, drawCases}
-use Rattle.composer.specs.Bass.Line.{bassPitchOf}
+use Rattle.composer.specs.Bass.Line.{bassPitchOf, pickupPitchOf}
 use Rattle.composer.specs.Chord.{degreeAt, voicedOf}
 use Rattle.composer.specs.Form.Body.{noCut, bodyBarOf}
 use Rattle.composer.specs.Harmony.{pentatonic}
@@ -81,3 +81,7 @@ composerCases =
 
 abbrev pub checkedCases : List Case
 checkedCases = drawCases ++ composerCases
+
+-- a row for words of document 01 that are no numbered case: pickups may reach note 30, under the lowest root
+abbrev pub pickupRow : Case
+pickupRow = case 0 (pickupPitchOf 7 ∷ []) (30 ∷ [])

@@ -21,11 +21,19 @@ abbrev pub degreeAt : ℕ → Degree
 degreeAt d = getD degrees d (record { «root_pc» = 0; third = 0; seventh = 0 })
 
 abbrev pub pastChord : Chord
-pastChord = record { notes = []; «root_pc» = 0 }
+pastChord = record { notes = [] }
 
 -- an entry that is not set
 abbrev pub noChord : Chord
-noChord = record { notes = 0 ∷ 0 ∷ 0 ∷ 0 ∷ []; «root_pc» = 0 }
+noChord = record { notes = 0 ∷ 0 ∷ 0 ∷ 0 ∷ [] }
+
+-- the pitch class of its root, the first of its notes
+abbrev pub rootClassOf : Chord → ℕ
+rootClassOf c = getD (c .notes) 0 0 % 12
+
+-- and of its fifth, the third of them
+abbrev pub fifthClassOf : Chord → ℕ
+fifthClassOf c = getD (c .notes) 2 0 % 12
 
 -- the pitch with class pc in the octave from lo up
 abbrev pub inOctaveFrom : ℕ → ℕ → ℕ
@@ -36,7 +44,7 @@ abbrev pub voicedOf : Degree → ℕ → Chord
 voicedOf d key =
     let pc = (d .«root_pc» + key) % 12 in
     let root = inOctaveFrom 48 pc in
-    record { notes = root ∷ (root + d .third) ∷ (root + 7) ∷ (root + d .seventh) ∷ []; «root_pc» = pc }
+    record { notes = root ∷ (root + d .third) ∷ (root + 7) ∷ (root + d .seventh) ∷ [] }
 
 -- a root in 48 to 59, and above it a minor or major third, the fifth, a minor or major seventh
 pub record RootPosition (c : Chord) : Type 0 where
@@ -48,4 +56,3 @@ pub record RootPosition (c : Chord) : Type 0 where
   pub most : root ≤ 59
   pub third-within : (3 ≤ third) × (third ≤ 4)
   pub seventh-within : (10 ≤ seventh) × (seventh ≤ 11)
-  pub class : root % 12 ≡ c .«root_pc»

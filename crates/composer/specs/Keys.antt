@@ -8,7 +8,7 @@ use lib.Ieee.{Float, binary32, ofBits, add, mul, div}
 use Rattle.laws.specs.Floats.{f32Of}
 use Rattle.streams.specs.Draw.{chanceOf, pickOf}
 use Rattle.streams.specs.declared.stream.NoiseStream.{NoiseStream}
-use Rattle.composer.specs.Chord.{inOctaveFrom, pastChord}
+use Rattle.composer.specs.Chord.{rootClassOf, inOctaveFrom, pastChord}
 use Rattle.composer.specs.Note.{noNote}
 use Rattle.composer.specs.Spread.{drawOf, afterOf}
 use Rattle.composer.specs.Style.{keysStyleOf}
@@ -38,7 +38,7 @@ findOf root a b [] = 0
 findOf root a b (note ∷ notes) = cond (soundsOf root a b note) note (findOf root a b notes)
 
 unfoldable pub shellOf : Chord → Shell
-shellOf c = record { third = findOf (c .«root_pc») 3 4 (c .notes); seventh = findOf (c .«root_pc») 10 11 (c .notes) }
+shellOf c = record { third = findOf (rootClassOf c) 3 4 (c .notes); seventh = findOf (rootClassOf c) 10 11 (c .notes) }
 
 -- the shell of a chord of the grammar, by the notes' places
 abbrev pub placedShell : Chord → Shell
@@ -111,7 +111,7 @@ toneOf s c k bar at =
 -- ---- a stroke on the lane
 unfoldable pub shellStrokeOf : KeysLane → Chord → KeysStyle → ℕ → Float → KeysLane
 shellStrokeOf l c k bar at =
-    let dyad = dyadOf (l .stream) (shellOf c) (c .«root_pc») k bar at in
+    let dyad = dyadOf (l .stream) (shellOf c) (rootClassOf c) k bar at in
     movedOf (pushOf (pushOf l (dyad .lower)) (dyad .higher)) (dyad .stream)
 
 unfoldable pub singleStrokeOf : KeysLane → Chord → KeysStyle → ℕ → Float → KeysLane

@@ -12,6 +12,7 @@ pub mod Lead
 pub mod Note
 pub mod Plain
 pub mod Promise
+pub mod Range
 pub mod Refusal
 pub mod Spread
 pub mod Style

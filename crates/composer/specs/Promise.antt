@@ -1,6 +1,5 @@
 -- What holds of the song of every seed, in both styles. Definitions only.
 use mathlib.Core.Path.{_≡_}
-use mathlib.Core.Bool.{true}
 use Prim.Native.Nat.{ℕ, _%_, _≤_, _<_}
 use lib.ListN.{length, take, getD}
 use Rattle.laws.specs.Floats.{f32Of}
@@ -10,9 +9,9 @@ use Rattle.composer.specs.Chord.{pastChord, RootPosition}
 use Rattle.composer.specs.Compose.{composeAnswered}
 use Rattle.composer.specs.Drums.{drumDrawsOf}
 use Rattle.composer.specs.Keys.{keyDrawsOf}
-use Rattle.composer.specs.Lead.Scale.{pcsOf, hasOf}
 use Rattle.composer.specs.Note.{noNote, pastNote, noteBar, noHit, pastHit, hitBar}
 use Rattle.composer.specs.Plain.{PlainPromise}
+use Rattle.composer.specs.Range.{RangePromise}
 use Rattle.composer.specs.Refusal.{Gives}
 use Rattle.composer.specs.Style.{leadStyleOf}
 use Rattle.composer.specs.Tempo.{slowestOf, fastestOf}
@@ -22,11 +21,11 @@ use Rattle.composer.specs.declared.score.Counters.{Counters}
 use Rattle.composer.specs.declared.score.Score.{Score}
 use Rattle.composer.specs.declared.style.Style.{Style}
 
--- a note in the style's window, its class in the scale
+-- a lead note: in the style's window, its class one of the 5 or 6 entries of the scale
 pub record Sings (style : Style) (scale : Scale) (midi : ℕ) : Type 0 where
   pub least : leadStyleOf style .lo ≤ midi
   pub most : midi ≤ leadStyleOf style .hi
-  pub class : hasOf (pcsOf scale) (midi % 12) ≡ true
+  pub class : Occurs (λ k. getD (scale .pcs) k 0) (scale .n) (midi % 12)
 
 -- the four lanes
 pub record LanesPromise (s : Score) : Type 0 where
@@ -59,17 +58,21 @@ pub record ScorePromise (style : Style) (score : Score) (scale : Scale) : Type 0
   pub chords : (b : ℕ) → b < 8 → RootPosition (getD (score .«bar_chords») b pastChord)
   pub lanes : LanesPromise score
   pub bars : BarsPromise score
-  -- the tempo, every time, velocity, gain and duration
+  -- the tempo, every time, velocity, gain and duration, and every spare byte
   pub plain : PlainPromise score
+  -- every note of every chord and lane
+  pub range : RangePromise score
   -- every loop bar has a hit and a bass note
   pub hit-in-each : (b : ℕ) → b < 8 → Occurs (λ i. hitBar (getD (score .hits) i pastHit)) (score .«hit_count») b
   pub bass-in-each : (b : ℕ) → b < 8 → Occurs (λ i. noteBar (getD (score .bass) i pastNote)) (score .«bass_count») b
   pub lead-sings : (i : ℕ) → i < score .«lead_count» → Sings style scale (getD (score .lead) i pastNote .midi)
-  pub bass-sounds : (i : ℕ) → i < score .«bass_count» → SoundsIn (score .«bar_chords») (getD (score .bass) i pastNote)
-  -- five or six pitch classes, in an array of six
+  pub bass-sounds : (i : ℕ) → i < score .«bass_count» → SoundsIn (score .«bar_chords») (getD (score .bass) i pastNote .bar) (getD (score .bass) i pastNote .midi)
+  -- five or six pitch classes, in an array of six with zeros behind them
   pub scale-least : 5 ≤ scale .n
   pub scale-most : scale .n ≤ 6
   pub scale-size : length (scale .pcs) ≡ 6
+  pub scale-classes : (k : ℕ) → getD (scale .pcs) k 0 < 12
+  pub scale-rest : (k : ℕ) → scale .n ≤ k → getD (scale .pcs) k 0 ≡ 0
 
 -- those counters that the paper tells by counts; the lead's and the bass's are their streams' (`songBy`)
 pub record DrawsPromise (style : Style) (score : Score) (counters : Counters) : Type 0 where

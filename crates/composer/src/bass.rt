@@ -37,12 +37,16 @@ pub(crate) fn bass(s: NoiseStream, h: Harmony, style: Style, beat_s: f32) -> Bas
     for b in 0..8usize {
         // Bar 0 follows bar 7.
         let next = (b + 1) % 8;
+        let chord = chords[b];
+        let root_pc = chord.root_class();
+        let next_chord = chords[next];
+        let next_pc = next_chord.root_class();
         let steps = rhythms[b];
         let next_steps = rhythms[next];
         let part = BarPart {
             bar: b as u8,
-            root_pc: chords[b].root_pc,
-            next_pc: chords[next].root_pc,
+            root_pc: root_pc,
+            next_pc: next_pc,
             steps: steps,
             next_step: next_steps.at[0],
         };

@@ -1,7 +1,7 @@
 // Chords: a degree of the grammar voiced in a key.
 ghost use mathlib.Core.Path.{_≡_};
 ghost use Prim.Native.Nat.{_≤_, _<_};
-ghost use Rattle.composer.specs.Chord.{inOctaveFrom, degreeAt, voicedOf};
+ghost use Rattle.composer.specs.Chord.{rootClassOf, inOctaveFrom, degreeAt, voicedOf};
 
 pub const OCTAVE: u8 = 12;
 
@@ -17,16 +17,14 @@ pub struct Degree {
     pub seventh: u8,
 }
 
-// A chord's notes and its root's pitch class.
+// A chord's notes, its root first.
 pub struct Chord {
     pub notes: [u8; 4],
-    pub root_pc: u8,
 }
 
 // An entry that is not set.
 pub const NO_CHORD: Chord = Chord {
     notes: [0, 0, 0, 0],
-    root_pc: 0,
 };
 
 // C, D minor, E minor, F, G, A minor.
@@ -63,6 +61,15 @@ const DEGREES: [Degree; 6] = [
     },
 ];
 
+impl Chord {
+    // The root's pitch class.
+    pub fn root_class(self) -> u8
+        ensures { λ r. ⌜ r ≡ rootClassOf self ⌝ }
+    {
+        self.notes[0] % OCTAVE
+    }
+}
+
 // The pitch with class pc in the octave from lo up.
 pub(crate) fn in_octave_from(lo: u8, pc: u8) -> u8
     requires { ⌜ (lo ≤ 244) × (pc ≤ 243) ⌝ }
@@ -85,8 +92,5 @@ pub(crate) fn voiced(d: u8, key: u8) -> Chord
         root + FIFTH,
         root + degree.seventh,
     ];
-    Chord {
-        notes: notes,
-        root_pc: pc,
-    }
+    Chord { notes: notes }
 }

@@ -137,8 +137,8 @@ fn refused(r: Refusal) -> Composed
     }
 }
 
-// Style 0 or 1 by its number; no other is asked for.
-fn style_by(number: u8) -> Style
+// The style by its number, 0 or 1; any other number gives sleep, and who asks has refused it before.
+pub fn style_by(number: u8) -> Style
     ensures { λ r. ⌜ r ≡ styleBy number ⌝ }
 {
     if number == 0 {

@@ -1,6 +1,7 @@
 // The keys stage: the comp over each bar's chord.
 ghost use mathlib.Core.Path.{_≡_};
 ghost use Prim.Native.Nat.{_≤_, _<_};
+ghost use Rattle.composer.specs.Chord.{rootClassOf};
 ghost use Rattle.composer.specs.Harmony.{Tonal};
 ghost use Rattle.composer.specs.Keys.{shellOf, placedShell, upperOf, densityDrawOf, gridAt, dyadOf, toneOf, keysOf};
 use crate::chord::Chord;
@@ -123,11 +124,12 @@ fn grid_at(bar: u8, e: u8, beat_s: f32) -> f32
 }
 
 // The shell at `at`, its upper voice a little later.
-fn dyad_at(s: NoiseStream, shell: Shell, root_pc: u8, k: KeysStyle, bar: u8, at: f32) -> Dyad
-    requires { ⌜ (shell .seventh ≤ 244) × («root_pc» < 12) ⌝ }
-    ensures { λ r. ⌜ r ≡ dyadOf s shell «root_pc» k bar at ⌝ }
+fn dyad_at(s: NoiseStream, shell: Shell, chord: Chord, k: KeysStyle, bar: u8, at: f32) -> Dyad
+    requires { ⌜ shell .seventh ≤ 244 ⌝ }
+    ensures { λ r. ⌜ r ≡ dyadOf s shell (rootClassOf chord) k bar at ⌝ }
 {
     let ninth = chance(s, NINTH_P);
+    let root_pc = chord.root_class();
     let high = upper(ninth.value, shell.seventh, root_pc);
     let vel = k.velocity.draw(ninth.stream);
     let rolled = ROLL.after(at, vel.stream);
@@ -204,7 +206,7 @@ pub(crate) fn keys(s: NoiseStream, h: Harmony, style: Style, beat_s: f32) -> Key
             let comp = k.comp;
             match comp {
                 Comp::Shell => {
-                    let dyad = dyad_at(lag.stream, shell, chord.root_pc, k, b, at);
+                    let dyad = dyad_at(lag.stream, shell, chord, k, b, at);
                     let lower = dyad.lower;
                     let higher = dyad.higher;
                     notes[count] = lower;

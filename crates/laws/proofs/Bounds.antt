@@ -14,6 +14,7 @@ use lib.Ieee.Fits.{down-pos, and-l, round-is}
 use lib.Ieee.Exact.{HasValue}
 use lib.Ieee.Nearest.{div-mono}
 use lib.Ieee.Order.{le-of-values, round-mono}
+use lib.Ieee.Scale.{finite}
 use lib.Ieee.Positive.{num, den, den-pos, through, first-pos}
 use Rattle.laws.specs.Floats.{f32Of, nonneg, In}
 use Rattle.laws.proofs.Exact.{whole-value, nonneg-of-value, div-is}
@@ -30,8 +31,13 @@ nn-value (inf s) p = absurd p
 nn-value (fin true m e) p = absurd p
 nn-value (fin false m e) p = (refl, refl)
 
+pub nonneg-finite : (x : Float) → T (nonneg x) → T (finite x)
+nonneg-finite nan p = absurd p
+nonneg-finite (inf s) p = absurd p
+nonneg-finite (fin s m e) p = tt
+
 -- what asking for the bits needs
-pub no-nan : (x : Float) → T (nonneg x) → T (not (isNan x))
+pub no-nan : (x : Float) → T (finite x) → T (not (isNan x))
 unfolding isNan
 no-nan nan p = absurd p
 no-nan (inf s) p = absurd p

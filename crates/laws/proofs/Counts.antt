@@ -30,7 +30,7 @@ module _ {A : Type 0} (p : A → Bool) where
       go true e = omega arith
       go false e = omega arith
 
-  count-append : (xs ys : List A) → count p (xs ++ ys) ≡ count p xs + count p ys
+  pub count-append : (xs ys : List A) → count p (xs ++ ys) ≡ count p xs + count p ys
   count-append [] ys = omega arith
   count-append (x ∷ xs) ys = omega (arith, count-append xs ys)
 

@@ -38,6 +38,18 @@ module _ {A : Type 0} where
   unfolding pad
   pad-at z cap xs k h = List·getD-append xs (replicate (cap - length xs) z) z k h
 
+  pub replicate-at : (n i : ℕ) (z : A) → getD (replicate n z) i z ≡ z
+  replicate-at zero i z = refl
+  replicate-at (suc n) zero z = refl
+  replicate-at (suc n) (suc i) z = replicate-at n i z
+
+  -- and the padding behind them
+  pub pad-past : (z : A) (cap : ℕ) (xs : List A) (k : ℕ) → length xs ≤ k → getD (pad z cap xs) k z ≡ z
+  unfolding pad
+  pad-past z cap xs k h =
+      let e : k ≡ length xs + (k - length xs) = omega arith in
+      rw e (getD-append-add xs (replicate (cap - length xs) z) (k - length xs) z ∙ replicate-at (cap - length xs) (k - length xs) z)
+
   -- an entry is the same whatever stands past the end
   pub getD-any : (xs : List A) (i : ℕ) (d e : A) → i < length xs → getD xs i d ≡ getD xs i e
   getD-any [] i d e h = absurd (not-suc-le-zero h)

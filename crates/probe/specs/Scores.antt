@@ -5,7 +5,7 @@ use Prim.Native.Nat.{ℕ, _-_, _/_, _%_}
 use lib.Dec.{eqb, ltb}
 use lib.ListN.{getD}
 use lib.Ieee.{binary32, toBits}
-use Rattle.composer.specs.Chord.{pastChord}
+use Rattle.composer.specs.Chord.{rootClassOf, pastChord}
 use Rattle.composer.specs.Kicks.{unbeatenOf}
 use Rattle.composer.specs.Note.{kindNumberOf, pastNote, pastHit}
 use Rattle.composer.specs.Style.{styleNumberOf}
@@ -36,7 +36,7 @@ scaleWordOf s k = cond (eqb k 0) (s .n) (getD (s .pcs) (k - 1) 0)
 
 -- the root's class, then the four notes
 abbrev pub chordWordOf : Chord → ℕ → ℕ
-chordWordOf c k = cond (eqb k 0) (c .«root_pc») (getD (c .notes) (k - 1) 0)
+chordWordOf c k = cond (eqb k 0) (rootClassOf c) (getD (c .notes) (k - 1) 0)
 
 abbrev pub noteWordsOf : Note → List ℕ
 noteWordsOf n = n .bar ∷ toBits binary32 (n .at) ∷ n .midi ∷ toBits binary32 (n .vel) ∷ toBits binary32 (n .dur) ∷ []

@@ -65,7 +65,8 @@ fn chord_word(c: Chord, k: usize) -> u64
     ensures { λ r. ⌜ r ≡ chordWordOf c k ⌝ }
 {
     if k == 0 {
-        return c.root_pc as u64;
+        let root = c.root_class();
+        return root as u64;
     }
     c.notes[k - 1] as u64
 }

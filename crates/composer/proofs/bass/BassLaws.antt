@@ -7,7 +7,6 @@ use native.Mathlib.Omega.{arith}
 use lib.ListN.{getD}
 use lib.Ieee.{Float}
 use Rattle.streams.specs.declared.stream.NoiseStream.{NoiseStream}
-use Rattle.composer.specs.Chord.{pastChord}
 use Rattle.composer.specs.Harmony.{Tonal}
 use Rattle.composer.specs.Bass.{partOf, barsPlayed}
 use Rattle.composer.specs.Bass.Rhythm.{Rising, pastSteps, bassRhythmsOf}
@@ -25,17 +24,14 @@ pub drawn-rising : (r : Rhythms) (s : NoiseStream) → r ≡ bassRhythmsOf s →
 drawn-rising r s e b l = rw e (rhythms-rising s b l)
 
 module _ (h : Harmony) (tonal : Tonal h) where
-  pub root-class-lt : (b : ℕ) → b < 8 → getD (h .bars) b pastChord .«root_pc» < 12
-  root-class-lt b l = rw (tonal .bar b l) (omega arith)
-
   module _ (rs : List Steps) (rising : (b : ℕ) → b < 8 → Rising (getD rs b pastSteps) 16) where
     pub part-playable : (b : ℕ) → b < 8 → Playable (partOf (h .bars) rs b)
     unfolding partOf
     part-playable b l =
         let k : (b + 1) % 8 < 8 = omega arith in
         record {
-          root-lt = root-class-lt b l;
-          next-lt = root-class-lt ((b + 1) % 8) k;
+          root-lt = omega arith;
+          next-lt = omega arith;
           steps = rising b l;
           next-step-lt = rising ((b + 1) % 8) k .below 0 (omega (arith, rising ((b + 1) % 8) k .some));
         }

@@ -1,5 +1,5 @@
 -- Every bass note is plain: it starts within the loop, is loud enough, and is held for a while but not past the loop's end. Assumes nothing.
-use mathlib.Core.Path.{_≡_, subst}
+use mathlib.Core.Path.{_≡_, refl, subst}
 use mathlib.Core.Bool.{Bool, true, false, cond, _&&_}
 use mathlib.Core.List.{List, [], _∷_}
 use Prim.Native.Nat.{ℕ, zero, suc, _+_, _-_, _%_, _≤_, _<_}
@@ -8,7 +8,8 @@ use borrow.Author.Tests.{ltb-true}
 use lib.Dec.{T, eqb, ltb, lit≤}
 use lib.ListN.{getD}
 use lib.Seq.{getD-set-other}
-use lib.Ieee.{Float, binary32, add, sub, mul, div, ofInt, ofBits, le}
+use lib.Ieee.{Float, binary32, add, sub, mul, div, ofInt, ofBits, le, lt}
+use lib.Ieee.Fits.{cond-fits, mul-fits, sub-fits}
 use mir.Facts.{and-yes}
 use Rattle.laws.specs.Floats.{f32Of, nonneg, In}
 use Rattle.laws.specs.Sorts.{All}
@@ -25,7 +26,7 @@ use Rattle.composer.specs.Bass.Rhythm.{stepP, firstBeatSum, rootFrom, ro
 use Rattle.composer.specs.Compose.{beatSOf}
 use Rattle.composer.specs.Harmony.{Tonal}
 use Rattle.composer.specs.Note.{zero32, pastNote}
-use Rattle.composer.specs.Plain.{latest, softest, loudest, shortest, longest, PlainNote}
+use Rattle.composer.specs.Plain.{latest, softest, loudest, shortest, longest, Fits32, PlainNote}
 use Rattle.composer.specs.Spread.{afterOf}
 use Rattle.composer.specs.Style.{bassStyleOf}
 use Rattle.composer.specs.Timing.{sixteenthBeats, barSOf}
@@ -40,7 +41,7 @@ use Rattle.composer.specs.declared.bass.rhythm.StepsDraw.{StepsDraw}
 use Rattle.composer.specs.declared.bass.rhythm.Rhythms.{Rhythms}
 use Rattle.composer.specs.declared.bass.line.BarPart.{BarPart}
 use Rattle.composer.specs.declared.bass.line.Strike.{Strike}
-use Rattle.composer.proofs.RangeLaws.{between-in, stays, draw-in, after-in, quickest, slowest, beat-in, bar-in, start-in}
+use Rattle.composer.proofs.RangeLaws.{between-in, stays, draw-in, after-in, draw-fits, after-fits, quickest, slowest, beat-in, bar-in, start-in}
 use Rattle.composer.proofs.bass.BassLaws.{part-playable}
 use Rattle.composer.proofs.bass.PromiseLaws.{bass-laid}
 use Rattle.composer.proofs.bass.RhythmLaws.{root-le, rhythms-rising}
@@ -167,6 +168,8 @@ module _ (n : ℕ) (tempo : (70 ≤ n) × (n ≤ 82)) where
   record Struck (x : Strike) : Type 0 where
     at : In zero32 (endOf beatS) (x .at)
     vel : In softest loudest (x .vel)
+    at-fits : Fits32 (x .at)
+    vel-fits : Fits32 (x .vel)
 
   struck-in : (s : NoiseStream) (on : Float) (midi : ℕ) (lag velocity : Spread) → In zero32 (lastOf beatS) on
       → In zero32 (bassLag .base) (lag .base) → In zero32 (bassLag .span) (lag .span) → T (stays velocity softest loudest) → Struck (struckOf s on midi lag velocity)
@@ -176,6 +179,8 @@ module _ (n : ℕ) (tempo : (70 ≤ n) × (n ≤ 82)) where
       record {
         at = wider zero32 (endOf beatS) a tt (end-in .ok) (unfold mul add le in tt) (here (endOf beatS) (end-in .ok) .most);
         vel = draw-in velocity softest loudest t (afterOf lag on s .stream);
+        at-fits = after-fits lag on s;
+        vel-fits = draw-fits velocity (afterOf lag on s .stream);
       }
 
   module _ (style : BassStyle) (loud : T (stays (style .velocity) softest loudest)) (later : T (stays (laterVelocity (style .velocity)) softest loudest)) (p : BarPart) where
@@ -229,6 +234,10 @@ module _ (n : ℕ) (tempo : (70 ≤ n) × (n ≤ 82)) where
     unfolding heldOf
     held-in gap at h i = lesser-in (gated-in gap h) (left-in at i)
 
+    held-fits : (gap : ℕ) (at : Float) → Fits32 (heldOf beatS gap at)
+    unfolding heldOf
+    held-fits gap at = cond-fits binary32 (lt _ _) _ _ (mul-fits binary32 (mul binary32 (f32Of gap) (stepSOf beatS)) bassGate) (sub-fits binary32 (loopSOf beatS) at)
+
     -- ---- the bar
     module _ (playable : Playable p) (next : p .«next_step» < 4) (early : p .bar ≤ 7) where
       note-plain : (s : NoiseStream) (i : ℕ) → i < p .steps .n → (midi : ℕ)
@@ -247,6 +256,10 @@ module _ (n : ℕ) (tempo : (70 ≤ n) × (n ≤ 82)) where
             at = wider zero32 latest (d .at) (end-in .lo-ok) (end-in .hi-ok) (here zero32 (end-in .lo-ok) .least) (end-in .most);
             vel = d .vel;
             dur = held-in (gapOf p i) _ (gap-by p playable next i h) (d .at);
+            at-fits = d .at-fits;
+            vel-fits = d .vel-fits;
+            dur-fits = held-fits (gapOf p i) _;
+            spare = refl;
           }
 
       bar-plain : (l : BassLane) (i : ℕ) → i ≤ p .steps .n → Filled pastNote PlainNote (l .notes) (l .count)

@@ -1,10 +1,13 @@
 -- Every drum hit is plain: it falls within the loop, whichever way it is jittered, and its gain is neither too soft nor too loud. Assumes nothing.
+use mathlib.Core.Path.{refl}
 use mathlib.Core.Bool.{Bool, _&&_}
 use Prim.Native.Nat.{ℕ, zero, suc, _%_, _≤_, _<_}
 use native.Mathlib.Omega.{arith}
 use lib.Dec.{T, eqb, leb, leb→le}
 use lib.ListN.{getD, length}
-use lib.Ieee.{Float, nan, binary32, add, sub, mul, ofInt, ofBits, le, ne}
+use lib.Ieee.{Float, nan, binary32, add, sub, mul, ofInt, ofBits, le, lt, ne}
+use lib.Ieee.Bits.{ofBits-fits}
+use lib.Ieee.Fits.{cond-fits, add-fits, mul-fits}
 use mir.Facts.{and-yes}
 use Rattle.laws.specs.Floats.{f32Of, fractOf, nonneg, In}
 use Rattle.laws.specs.Lists.{allOf}
@@ -20,7 +23,7 @@ use Rattle.composer.specs.Drums.{wobble, barOf, layBarOf, barsTo, noHits
 use Rattle.composer.specs.Drums.Grooves.{ghostKick, hiphopGrooveOf, sleepGroove}
 use Rattle.composer.specs.Drums.Kit.{barAt, eighthOf, endsStatement, drawnOn, hitAccent, kickJitter, kickSlotOf, kickBeatOf, kickHitOf, pushKickOf, layKicksOf, snareDragS, snareJitter, snareHitOf, pushSnareOf, snaresTo, laySnaresOf, hatJitter, hatSlotOf, hatHitOf, pushHatOf, layHatOf, hatsTo}
 use Rattle.composer.specs.Note.{zero32, pastHit}
-use Rattle.composer.specs.Plain.{latest, softest, loudest, PlainHit}
+use Rattle.composer.specs.Plain.{latest, softest, loudest, Fits32, PlainHit}
 use Rattle.composer.specs.Spread.{drawOf, jitterOf}
 use Rattle.composer.specs.Timing.{swingDelayOf, heldAtZero}
 use Rattle.composer.specs.declared.spread.Jitter.{Jitter}
@@ -104,6 +107,9 @@ unfolding ofBits
 hit-at s j slot i e w t u v l =
     wider zero32 latest (held-in (add-size binary32 (size-of-in i) (jitter-size s j e w t u) v)) tt tt (unfold le in tt) l
 
+at-fits : (slot jitter : Float) → Fits32 (heldAtZero (add binary32 slot jitter))
+at-fits slot jitter = cond-fits binary32 (lt zero32 (add binary32 slot jitter)) (add binary32 slot jitter) zero32 (add-fits binary32 slot jitter) (ofBits-fits binary32 0)
+
 -- ---- how hard
 -- the wobble up to 1.1015625, the accent up to 1.0625
 abbrev leastWobble : Float
@@ -160,6 +166,9 @@ module _ (beatS : Float) (beat : In quickest slowest beatS) (number : ℕ) (inLo
       (record {
         at = hit-at (l .stream) kickJitter _ (kick-slot dragS (kickBeatOf k number) d at) tt tt (unfold add in tt) (unfold add mul in tt) (unfold add mul in tt) (unfold add mul le in tt);
         gain = gain-in (jitterOf kickJitter (l .stream) .stream) (k .gain) w (between-in leastGain mostGain (k .gain) (u .1)) wobbles;
+        at-fits = at-fits _ _;
+        gain-fits = mul-fits binary32 _ _;
+        spare = refl;
       })
 
   -- ---- snares
@@ -174,6 +183,9 @@ module _ (beatS : Float) (beat : In quickest slowest beatS) (number : ℕ) (inLo
       (record {
         at = hit-at (l .stream) snareJitter _ (snare-slot x i) tt tt (unfold add in tt) (unfold add mul in tt) (unfold add mul in tt) (unfold add mul le in tt);
         gain = gain-in (jitterOf snareJitter (l .stream) .stream) gain w g wobbles;
+        at-fits = at-fits _ _;
+        gain-fits = mul-fits binary32 _ _;
+        spare = refl;
       })
 
   -- ---- hats
@@ -216,6 +228,9 @@ module _ (beatS : Float) (beat : In quickest slowest beatS) (number : ℕ) (inLo
         (record {
           at = hit-at (l .stream) hatJitter _ (hat-slot (g .hats .swing) swing e h) tt tt (unfold add in tt) (unfold add mul in tt) (unfold add mul in tt) (unfold add mul le in tt);
           gain = hat-gain _ (draw-in (g .hats .velocity) leastHat mostHat (u .1) (jitterOf hatJitter (l .stream) .stream));
+          at-fits = at-fits _ _;
+          gain-fits = mul-fits binary32 _ _;
+          spare = refl;
         })
 
     kicks-full : (l : DrumLane) → Full l → Full (layKicksOf l g bar)

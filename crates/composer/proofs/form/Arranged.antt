@@ -7,7 +7,7 @@ use borrow.Author.Tests.{eq-eqb, ne-eqb}
 use lib.Dec.{leb, eqb}
 use lib.ListN.{getD}
 use Rattle.laws.specs.Lists.{listTo}
-use Rattle.laws.proofs.Lists.{length-pad, length-list-to}
+use Rattle.laws.proofs.Lists.{length-pad, pad-past, length-list-to}
 use Rattle.composer.specs.Refusal.{Gives}
 use Rattle.composer.specs.Form.{introBarsOf}
 use Rattle.composer.specs.Form.Plays.{silent}
@@ -78,6 +78,7 @@ module _ (seed : ℕ) where
         «song-bars» = refl;
         most = arranged-bars seed;
         size = length-pad silent 64 (listTo (songBarOf d (introLength d)) (songLength d)) (omega (arith, length-list-to (songBarOf d (introLength d)) (songLength d), arranged-bars seed));
+        rest = λ b h. pad-past silent 64 (listTo (songBarOf d (introLength d)) (songLength d)) b (omega (arith, length-list-to (songBarOf d (introLength d)) (songLength d), h));
         found = λ b h. (getD (f .plays) b silent, found-at b h);
         body = body;
         «before-break» = λ whole. strikes-at (λ p. p .drums) (8 * (P / 2) - 1) (omega arith) (bar-before-break d (8 * (P / 2) - 1) whole (omega arith));

@@ -55,7 +55,7 @@ abbrev runsTest : ℕ → Decisions → Bool
 runsTest P d = windows 9 (drumsAt d) (8 * P) && (windows 12 (bassAt d) (8 * P) && windows 12 (bothAt d) (8 * P))
 
 abbrev countTest : ℕ → Decisions → Bool
-countTest P d = leb (lacking (drumsAt d) (8 * P)) (3 * P - 4) && leb (lacking (bassAt d) (8 * P)) (3 * P - 1)
+countTest P d = leb (lacking (drumsAt d) (8 * P) + 4) (3 * P) && leb (lacking (bassAt d) (8 * P) + 1) (3 * P)
 
 abbrev test : Thinning → Bool → Bool → ℕ → Bool
 test t whole low P = runsTest P (worst P t whole low) && countTest P (worst P t whole low)
@@ -83,14 +83,14 @@ worst-promise t whole low P l m =
     let parts = and-yes (runsTest P d) (countTest P d) (worst-test t whole low P l m) in
     let runs = and-yes (windows 9 (drumsAt d) (8 * P)) (windows 12 (bassAt d) (8 * P) && windows 12 (bothAt d) (8 * P)) (parts .0) in
     let low-runs = and-yes (windows 12 (bassAt d) (8 * P)) (windows 12 (bothAt d) (8 * P)) (runs .1) in
-    let counts = and-yes (leb (lacking (drumsAt d) (8 * P)) (3 * P - 4)) (leb (lacking (bassAt d) (8 * P)) (3 * P - 1)) (parts .1) in
+    let counts = and-yes (leb (lacking (drumsAt d) (8 * P) + 4) (3 * P)) (leb (lacking (bassAt d) (8 * P) + 1) (3 * P)) (parts .1) in
     record {
       chords = λ b h. refl;
       «drums-running» = runs-at-most 8 (drumsAt d) (8 * P) (windows-among 9 (drumsAt d) (8 * P) (runs .0));
       «bass-running» = runs-at-most 11 (bassAt d) (8 * P) (windows-among 12 (bassAt d) (8 * P) (low-runs .0));
       together = windows-among 12 (bothAt d) (8 * P) (low-runs .1);
-      «drums-in-all» = leb→le (lacking (drumsAt d) (8 * P)) (3 * P - 4) (counts .0);
-      «bass-in-all» = leb→le (lacking (bassAt d) (8 * P)) (3 * P - 1) (counts .1);
+      «drums-in-all» = leb→le (lacking (drumsAt d) (8 * P) + 4) (3 * P) (counts .0);
+      «bass-in-all» = leb→le (lacking (bassAt d) (8 * P) + 1) (3 * P) (counts .1);
     }
 
 -- ---- each body mutes a part of the worst

@@ -1,4 +1,6 @@
--- Every note of the keys is plain: on its eighth, behind it by the lag and the roll, and as loud and as long as the style has it. Assumes nothing.
+-- Every note of the keys is plain, on its eighth, behind it by the lag and the roll, and as loud and as long as the style has it;
+-- and it is from 48 to 73. Assumes nothing.
+use mathlib.Core.Path.{refl}
 use mathlib.Core.Bool.{Bool, _&&_}
 use mathlib.Core.List.{List}
 use Prim.Native.Nat.{ℕ, zero, suc, _%_, _≤_, _<_}
@@ -6,6 +8,8 @@ use native.Mathlib.Omega.{arith}
 use lib.Dec.{T, eqb}
 use lib.ListN.{getD}
 use lib.Ieee.{Float, binary32, add, mul, ofInt, ofBits, le}
+use lib.Ieee.Bits.{ofBits-fits}
+use lib.Ieee.Fits.{add-fits, mul-fits}
 use mir.Facts.{and-yes}
 use Rattle.laws.specs.Floats.{In}
 use Rattle.laws.proofs.Bools.{either}
@@ -13,10 +17,13 @@ use Rattle.laws.proofs.Bounds.{here, wider, add-in, mul-in}
 use Rattle.laws.proofs.Lanes.{Filled, filled-none, filled-push}
 use Rattle.streams.specs.Draw.{chanceOf, pickOf}
 use Rattle.streams.specs.declared.stream.NoiseStream.{NoiseStream}
-use Rattle.composer.specs.Chord.{pastChord}
+use Rattle.streams.proofs.DrawLaws.{pick-lt}
+use Rattle.composer.specs.Chord.{rootClassOf, pastChord}
 use Rattle.composer.specs.Keys.{shellOf, upperOf, keysLag, roll, rolledSofter, ninthP, densityDrawOf, emptyOf, movedOf, pushOf, gridAt, shellStrokeOf, singleStrokeOf, strokeBy, strokeOf, eighthOf, barTo, barOf, barsTo, keysOf}
+use Rattle.composer.specs.Harmony.{Tonal}
 use Rattle.composer.specs.Note.{zero32, pastNote}
-use Rattle.composer.specs.Plain.{latest, softest, loudest, shortest, longest, PlainNote}
+use Rattle.composer.specs.Plain.{latest, softest, loudest, shortest, longest, Fits32, PlainNote}
+use Rattle.composer.specs.Range.{Within}
 use Rattle.composer.specs.Spread.{drawOf, afterOf}
 use Rattle.composer.specs.Style.{keysStyleOf}
 use Rattle.composer.specs.declared.chord.Chord.{Chord}
@@ -27,12 +34,16 @@ use Rattle.composer.specs.declared.style.KeysStyle.{KeysStyle}
 use Rattle.composer.specs.declared.style.Style.{Style}
 use Rattle.composer.specs.declared.style.Style.the-variants.{Hiphop, Sleep}
 use Rattle.composer.specs.declared.keys.KeysLane.{KeysLane}
-use Rattle.composer.proofs.RangeLaws.{between, between-in, stays, draw-in, after-in, quickest, slowest, eighths-in, swing-in}
+use Rattle.composer.proofs.RangeLaws.{between, between-in, stays, draw-in, after-in, draw-fits, after-fits, quickest, slowest, eighths-in, swing-in}
 use Rattle.composer.proofs.keys.NoteLaws.{keys-laid}
+use Rattle.composer.proofs.keys.ShellLaws.{Played, tonal-played}
 use Rattle.composer.proofs.keys.StrokeLaws.{lagged, struckAt}
 
+abbrev KeysNote : Note → Type 0
+KeysNote x = PlainNote x × Within 48 73 (x .midi)
+
 abbrev Full : KeysLane → Type 0
-Full l = Filled pastNote PlainNote (l .notes) (l .count)
+Full l = Filled pastNote KeysNote (l .notes) (l .count)
 
 -- ---- what a style keeps to: velocities from 0.35 on, and a fit duration
 abbrev least : Float
@@ -46,11 +57,15 @@ unfolding ofBits ofInt mul add le
 style-fair Hiphop = tt
 style-fair Sleep = tt
 
+style-dur : (style : Style) → Fits32 (keysStyleOf style .dur)
+style-dur Hiphop = ofBits-fits binary32 _
+style-dur Sleep = ofBits-fits binary32 _
+
 -- ---- a stroke, up to 27.046875
 abbrev lastStroke : Float
 lastStroke = ofBits binary32 0x41d8_6000
 
-module _ (k : KeysStyle) (isFair : T (fair k)) where
+module _ (k : KeysStyle) (isFair : T (fair k)) (durFits : Fits32 (k .dur)) where
   velocity-in : (s : NoiseStream) → In least loudest (drawOf (k .velocity) s .value)
   velocity-in s = draw-in (k .velocity) least loudest (and-yes (stays (k .velocity) least loudest) (between shortest longest (k .dur)) isFair .0) s
 
@@ -76,10 +91,10 @@ module _ (k : KeysStyle) (isFair : T (fair k)) where
       (unfold add mul le in tt)
       (unfold add mul le in tt)
 
-  push-full : (l : KeysLane) (x : Note) → PlainNote x → Full l → Full (pushOf l x)
-  push-full l x p f = filled-push pastNote PlainNote (l .notes) (l .count) x f p
+  push-full : (l : KeysLane) (x : Note) → KeysNote x → Full l → Full (pushOf l x)
+  push-full l x p f = filled-push pastNote KeysNote (l .notes) (l .count) x f p
 
-  module _ (l : KeysLane) (c : Chord) (bar : ℕ) (at : Float) (i : In zero32 lastStroke at) (f : Full l) where
+  module _ (l : KeysLane) (c : Chord) (played : Played c) (bar : ℕ) (at : Float) (atFits : Fits32 at) (i : In zero32 lastStroke at) (f : Full l) where
     shell-full : Full (shellStrokeOf l c k bar at)
     unfolding shellStrokeOf
     shell-full =
@@ -87,18 +102,46 @@ module _ (k : KeysStyle) (isFair : T (fair k)) where
         let vel = drawOf (k .velocity) (ninth .stream) in
         let rolled = afterOf roll at (vel .stream) in
         let lower : Note = record { bar = bar; spare = 0; at = at; midi = shellOf c .third; vel = vel .value; dur = k .dur } in
-        let higher : Note = record { bar = bar; spare = 0; at = rolled .value; midi = upperOf (ninth .value) (shellOf c .seventh) (c .«root_pc»); vel = mul binary32 (vel .value) rolledSofter; dur = k .dur } in
-        push-full (pushOf l lower) higher (record { at = rolled-in (vel .stream) at i; vel = softer-in (vel .value) (velocity-in (ninth .stream)); dur = dur-in })
-        (push-full l lower (record { at = time-in at i; vel = loud-in (vel .value) (velocity-in (ninth .stream)); dur = dur-in }) f)
+        let higher : Note = record { bar = bar; spare = 0; at = rolled .value; midi = upperOf (ninth .value) (shellOf c .seventh) (rootClassOf c); vel = mul binary32 (vel .value) rolledSofter; dur = k .dur } in
+        let low : PlainNote lower = record {
+          at = time-in at i;
+          vel = loud-in (vel .value) (velocity-in (ninth .stream));
+          dur = dur-in;
+          at-fits = atFits;
+          vel-fits = draw-fits (k .velocity) (ninth .stream);
+          dur-fits = durFits;
+          spare = refl;
+        }
+        in
+        let high : PlainNote higher = record {
+          at = rolled-in (vel .stream) at i;
+          vel = softer-in (vel .value) (velocity-in (ninth .stream));
+          dur = dur-in;
+          at-fits = after-fits roll at (vel .stream);
+          vel-fits = mul-fits binary32 (vel .value) rolledSofter;
+          dur-fits = durFits;
+          spare = refl;
+        }
+        in
+        push-full (pushOf l lower) higher (high, played .upper (ninth .value)) (push-full l lower (low, played .third) f)
 
     single-full : Full (singleStrokeOf l c k bar at)
     unfolding singleStrokeOf
     single-full =
         let p = pickOf (l .stream) 4 in
         let vel = drawOf (k .velocity) (p .stream) in
-        push-full l (record { bar = bar; spare = 0; at = at; midi = getD (c .notes) (p .value) 0; vel = vel .value; dur = k .dur })
-        (record { at = time-in at i; vel = loud-in (vel .value) (velocity-in (p .stream)); dur = dur-in })
-        f
+        let note : Note = record { bar = bar; spare = 0; at = at; midi = getD (c .notes) (p .value) 0; vel = vel .value; dur = k .dur } in
+        let plain : PlainNote note = record {
+          at = time-in at i;
+          vel = loud-in (vel .value) (velocity-in (p .stream));
+          dur = dur-in;
+          at-fits = atFits;
+          vel-fits = draw-fits (k .velocity) (p .stream);
+          dur-fits = durFits;
+          spare = refl;
+        }
+        in
+        push-full l note (plain, played .tone (p .value) (pick-lt (l .stream) 4 (omega arith))) f
 
     stroke-by-full : (comp : Comp) → Full (strokeBy comp l c k bar at)
     stroke-by-full Comp.Shell = shell-full
@@ -121,10 +164,12 @@ module _ (k : KeysStyle) (isFair : T (fair k)) where
         let lag = draw-in keysLag (keysLag .base) (ofBits binary32 0x3d00_0000) (unfold mul add le in tt) s in
         wider zero32 lastStroke (add-in binary32 i lag (unfold add in tt)) tt tt (unfold add le in tt) (unfold add le in tt)
 
-    module _ (c : Chord) (density : Float) (bar : ℕ) (inLoop : bar ≤ 7) where
+    module _ (c : Chord) (played : Played c) (density : Float) (bar : ℕ) (inLoop : bar ≤ 7) where
       stroke-full : (l : KeysLane) (e : ℕ) → e ≤ 7 → Full l → Full (strokeOf l c k bar (gridAt bar e beatS))
       unfolding strokeOf
-      stroke-full l e h f = stroke-by-full (lagged l) c bar (struckAt l (gridAt bar e beatS)) (struck-in (l .stream) (gridAt bar e beatS) (grid-in bar e inLoop h)) f (k .comp)
+      stroke-full l e h f =
+          stroke-by-full (lagged l) c played bar (struckAt l (gridAt bar e beatS)) (add-fits binary32 (gridAt bar e beatS) (drawOf keysLag (l .stream) .value))
+          (struck-in (l .stream) (gridAt bar e beatS) (grid-in bar e inLoop h)) f (k .comp)
 
       eighth-full : (l : KeysLane) (e : ℕ) → e ≤ 7 → Full l → Full (eighthOf l c k density bar e beatS)
       unfolding eighthOf
@@ -138,19 +183,25 @@ module _ (k : KeysStyle) (isFair : T (fair k)) where
       bar-full l zero h f = f
       bar-full l (suc e) h f = eighth-full (barTo l c k density bar beatS e) e (omega arith) (bar-full l e (omega arith) f)
 
-    bars-full : (bars : List Chord) (density : Float) (l : KeysLane) (b : ℕ) → b ≤ 8 → Full l → Full (barsTo l bars k density beatS b)
+    bars-full : (bars : List Chord) → ((b : ℕ) → b < 8 → Played (getD bars b pastChord)) → (density : Float) (l : KeysLane) (b : ℕ) → b ≤ 8 → Full l → Full (barsTo l bars k density beatS b)
     unfolding barsTo barOf
-    bars-full bars density l zero h f = f
-    bars-full bars density l (suc b) h f =
-        bar-full (getD bars b pastChord) density b (omega arith) (barsTo l bars k density beatS b) 8 (omega arith) (bars-full bars density l b (omega arith) f)
+    bars-full bars played density l zero h f = f
+    bars-full bars played density l (suc b) h f =
+        bar-full (getD bars b pastChord) (played b (omega arith)) density b (omega arith) (barsTo l bars k density beatS b) 8 (omega arith) (bars-full bars played density l b (omega arith) f)
 
-module _ (s : NoiseStream) (h : Harmony) (style : Style) (beatS : Float) (beat : In quickest slowest beatS) where
+module _ (s : NoiseStream) (h : Harmony) (tonal : Tonal h) (style : Style) (beatS : Float) (beat : In quickest slowest beatS) where
   filled : Full (keysOf s h style beatS)
   unfolding keysOf
   filled =
       let k = keysStyleOf style in
       let d = densityDrawOf (k .density) s in
-      bars-full k (style-fair style) beatS beat (h .bars) (d .value) (emptyOf (d .stream)) 8 (omega arith) (filled-none pastNote PlainNote (emptyOf (d .stream) .notes))
+      bars-full k (style-fair style) (style-dur style) beatS beat (h .bars) (tonal-played h tonal) (d .value) (emptyOf (d .stream)) 8 (omega arith) (filled-none pastNote KeysNote (emptyOf (d .stream) .notes))
+
+  note-at : (i : ℕ) → i < keysOf s h style beatS .count → KeysNote (getD (keysOf s h style beatS .notes) i pastNote)
+  note-at i k = let laid = keys-laid s h style beatS in filled i k (omega (arith, laid .size, laid .few))
 
   pub keys-plain : (i : ℕ) → i < keysOf s h style beatS .count → PlainNote (getD (keysOf s h style beatS .notes) i pastNote)
-  keys-plain i k = let laid = keys-laid s h style beatS in filled i k (omega (arith, laid .size, laid .few))
+  keys-plain i k = note-at i k .0
+
+  pub keys-within : (i : ℕ) → i < keysOf s h style beatS .count → Within 48 73 (getD (keysOf s h style beatS .notes) i pastNote .midi)
+  keys-within i k = note-at i k .1

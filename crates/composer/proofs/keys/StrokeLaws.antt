@@ -9,6 +9,7 @@ use lib.ListN.{set}
 use Rattle.streams.specs.Draw.{chanceOf}
 use Rattle.streams.specs.declared.draw.ChanceDraw.{ChanceDraw}
 use Rattle.streams.specs.declared.stream.NoiseStream.{NoiseStream}
+use Rattle.composer.specs.Chord.{rootClassOf}
 use Rattle.composer.specs.Keys.{keysLag, shellOf, movedOf, gridAt, dyadOf, toneOf, shellStrokeOf, singleStrokeOf, strokeBy, strokeOf, eighthOf}
 use Rattle.composer.specs.Spread.{drawOf}
 use Rattle.composer.specs.declared.chord.Chord.{Chord}
@@ -60,7 +61,7 @@ module _ (l : KeysLane) (c : Chord) (k : KeysStyle) (density : Float) (bar e : �
     unfolding eighthOf
     struck comp is = rw (← drew, strikes, lags, on) (sym (stroke-by (movedOf l (d .stream)) c k bar (gridAt bar e beatS) comp is))
 
-    module _ (shell : Shell) (found : shell ≡ shellOf c) (dyad : Dyad) (made : dyad ≡ dyadOf (lag .stream) shell (c .«root_pc») k bar at) where
+    module _ (shell : Shell) (found : shell ≡ shellOf c) (dyad : Dyad) (made : dyad ≡ dyadOf (lag .stream) shell (rootClassOf c) k bar at) where
       pub eighth-shell : k .comp ≡ Comp.Shell → laneOf (set (set (l .notes) (l .count) (dyad .lower)) (l .count + 1) (dyad .higher)) (l .count + 2) (dyad .stream) ≡ eighthOf l c k density bar e beatS
       unfolding shellStrokeOf
       eighth-shell is =

@@ -12,6 +12,7 @@ use lib.Seq.{take-at}
 use Rattle.laws.specs.Lists.{listTo, pad, allOf}
 use Rattle.laws.proofs.Lists.{pad-at}
 use Rattle.laws.proofs.Runs.{every, every-at}
+use Rattle.composer.specs.Chord.{rootClassOf}
 use Rattle.composer.specs.Harmony.{pentatonic, colour, classIn, classesOf, chordIn, melodyPcsOf, Tonal}
 use Rattle.composer.specs.Style.{leadStyleOf}
 use Rattle.composer.specs.Lead.Beats.{pastBeats}
@@ -135,7 +136,7 @@ module _ (style : Style) (major : Bool) (key : ℕ) (key-lt : key < 12) where
     ground-sound =
         let w = window style in
         let notes = chordIn key d .notes in
-        let root = chordIn key d .«root_pc» in
+        let root = rootClassOf (chordIn key d) in
         let t = tuned pool (l .lo) (l .hi) (tonesIn notes pool noClass (l .lo) (l .hi)) (tones-few notes pool noClass (l .lo) (l .hi) (w .2)) some-tones (tones-fit notes pool noClass (l .lo) (l .hi)) in
         record {
           low = w .0;

@@ -1,5 +1,5 @@
 -- Every lead note is plain: sung on a quarter beat of the loop, then played behind it with an accent. Assumes nothing.
-use mathlib.Core.Path.{_≡_, sym, ap, _∙_, subst}
+use mathlib.Core.Path.{_≡_, refl, sym, ap, _∙_, subst}
 use mathlib.Core.Bool.{Bool}
 use mathlib.Core.List.{List}
 use Prim.Native.Nat.{ℕ, zero, suc, _≤_, _<_}
@@ -7,6 +7,8 @@ use native.Mathlib.Omega.{arith}
 use lib.Dec.{T, lit≤}
 use lib.ListN.{getD, length}
 use lib.Ieee.{Float, nan, binary32, add, mul, ofInt, ofBits, le}
+use lib.Ieee.Bits.{ofBits-fits}
+use lib.Ieee.Fits.{mul-fits}
 use Rattle.laws.specs.Floats.{In}
 use Rattle.laws.proofs.Bounds.{here, wider, add-in, mul-in, whole-in}
 use Rattle.laws.proofs.Lanes.{Filled, filled-none, filled-push}
@@ -15,7 +17,7 @@ use Rattle.streams.specs.declared.stream.NoiseStream.{NoiseStream}
 use Rattle.composer.specs.Chord.{pastChord}
 use Rattle.composer.specs.Harmony.{Tonal}
 use Rattle.composer.specs.Note.{zero32, pastNote}
-use Rattle.composer.specs.Plain.{latest, softest, loudest, shortest, longest, PlainNote}
+use Rattle.composer.specs.Plain.{latest, softest, loudest, shortest, longest, Fits32, PlainNote}
 use Rattle.composer.specs.Spread.{drawOf, afterOf}
 use Rattle.composer.specs.Style.{leadStyleOf}
 use Rattle.composer.specs.Lead.{sungOf, leadOf}
@@ -39,7 +41,7 @@ use Rattle.composer.specs.declared.lead.melody.LeadNote.{LeadNote}
 use Rattle.composer.specs.declared.lead.melody.Sung.{Sung}
 use Rattle.composer.specs.declared.lead.role.Role.{Role}
 use Rattle.composer.specs.declared.lead.role.Role.the-variants.{Quote, Close, Peak, Resolve, ChordTone, Passing}
-use Rattle.composer.proofs.RangeLaws.{between-in, stays, draw-in, after-in, quickest, slowest, start-in}
+use Rattle.composer.proofs.RangeLaws.{between-in, stays, draw-in, after-in, after-fits, quickest, slowest, start-in}
 use Rattle.composer.proofs.lead.LeadLaws.{sung-good, lead-laid}
 use Rattle.composer.proofs.lead.RhythmLaws.{rhythm-bar, rhythm-few, rhythm-quarter}
 
@@ -137,6 +139,10 @@ unfolding ofBits
 dur-in Hiphop = between-in shortest longest (leadStyleOf Hiphop .dur) (unfold le in tt)
 dur-in Sleep = between-in shortest longest (leadStyleOf Sleep .dur) (unfold le in tt)
 
+dur-fits : (style : Style) → Fits32 (leadStyleOf style .dur)
+dur-fits Hiphop = ofBits-fits binary32 _
+dur-fits Sleep = ofBits-fits binary32 _
+
 -- the accent is at most 1.09375
 accented-in : (s : NoiseStream) (v : Float) → In least mostPeak v → In softest loudest (mul binary32 v (drawOf leadAccent s .value))
 unfolding ofBits ofInt
@@ -160,7 +166,8 @@ module _ (beatS : Float) (beat : In quickest slowest beatS) where
       (unfold add mul le in tt)
       (unfold add mul le in tt)
 
-  module _ (m : Sung) (sung : (i : ℕ) → i < m .count → PlainSung (getD (m .notes) i pastLead)) (dur : Float) (held : In shortest longest dur) where
+  module _ (m : Sung) (sung : (i : ℕ) → i < m .count → PlainSung (getD (m .notes) i pastLead)) (dur : Float) (held : In shortest longest dur)
+      (fit : Fits32 dur) where
     play-full : (s : NoiseStream) (k : ℕ) → k ≤ m .count → Filled pastNote PlainNote (playTo m beatS dur (silenceOf s) k .notes) (playTo m beatS dur (silenceOf s) k .count)
     unfolding playTo playOf playedNoteOf
     play-full s zero h = filled-none pastNote PlainNote (silenceOf s .notes)
@@ -168,7 +175,15 @@ module _ (beatS : Float) (beat : In quickest slowest beatS) where
         let l = playTo m beatS dur (silenceOf s) k in
         let x = sung k (omega arith) in
         filled-push pastNote PlainNote (l .notes) (l .count) _ (play-full s k (omega arith))
-        (record { at = played-at (l .stream) (getD (m .notes) k pastLead) x; vel = accented-in _ _ (x .vel); dur = held })
+        (record {
+          at = played-at (l .stream) (getD (m .notes) k pastLead) x;
+          vel = accented-in _ _ (x .vel);
+          dur = held;
+          at-fits = after-fits leadLag _ (l .stream);
+          vel-fits = mul-fits binary32 _ _;
+          dur-fits = fit;
+          spare = refl;
+        })
 
   module _ (s : NoiseStream) (h : Harmony) (tonal : Tonal h) (style : Style) where
     sung-plain : (i : ℕ) → i < sungOf s h style .count → PlainSung (getD (sungOf s h style .notes) i pastLead)
@@ -176,7 +191,7 @@ module _ (beatS : Float) (beat : In quickest slowest beatS) where
 
     filled : Filled pastNote PlainNote (leadOf s h style beatS .notes) (leadOf s h style beatS .count)
     unfolding leadOf playedOf
-    filled = let m = sungOf s h style in play-full m sung-plain (leadStyleOf style .dur) (dur-in style) (m .line .stream) (m .count) (omega arith)
+    filled = let m = sungOf s h style in play-full m sung-plain (leadStyleOf style .dur) (dur-in style) (dur-fits style) (m .line .stream) (m .count) (omega arith)
 
     pub lead-plain : (i : ℕ) → i < leadOf s h style beatS .count → PlainNote (getD (leadOf s h style beatS .notes) i pastNote)
     lead-plain i k = let laid = lead-laid s h tonal style beatS in filled i k (omega (arith, laid .size, laid .few))

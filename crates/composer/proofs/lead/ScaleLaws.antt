@@ -1,14 +1,17 @@
--- What a turn of each loop over the scale tells of the definitions, and that a walk keeps in the window. Assumes nothing.
+-- What a turn of each loop over the scale tells of the definitions, and that a walk keeps in the window; a class of the scale is
+-- one of its entries. Assumes nothing.
 use mathlib.Core.Path.{_≡_, refl, sym, ap, _∙_}
 use mathlib.Core.Bool.{Bool, true, false, cond}
 use mathlib.Core.List.{List, [], _∷_, _++_}
-use Prim.Native.Nat.{ℕ, zero, suc, _+_, _-_, _%_, _≤_, _<_}
+use Prim.Native.Nat.{ℕ, zero, suc, _+_, _-_, _%_, _≤_, _<_, suc-le-suc}
+use native.Mathlib.Nat.{zero-lt-suc}
 use native.Mathlib.Numerals.{add-one}
 use native.Mathlib.Omega.{arith}
 use borrow.Author.Tests.{eqb-true, eqb-false}
 use lib.Dec.{eqb}
 use lib.ListN.{length, getD, take, set, replicate, length-set}
 use lib.Seq.{ext-getD, getD-set-same, getD-set-other, take-suc}
+use Rattle.laws.specs.Lanes.{Occurs}
 use Rattle.laws.specs.Lists.{listTo}
 use Rattle.laws.proofs.Lists.{length-list-to, list-to-at}
 use Rattle.composer.specs.Lead.Scale.{hasOf, poolBy, inPool, fitsOf, candidateOf, snapFrom, movedOf, roomOf, dueAfter, walkOf}
@@ -111,3 +114,15 @@ walk-in pool true lo hi n (suc space) (suc due) a b r =
     walk-in pool true lo hi (n + 1) space (dueAfter (inPool pool ((n + 1) % 12)) (suc due)) (omega arith) (omega arith) (omega arith)
 walk-in pool false lo hi n (suc space) (suc due) a b r =
     walk-in pool false lo hi (n - 1) space (dueAfter (inPool pool ((n - 1) % 12)) (suc due)) (omega arith) (omega arith) (omega arith)
+
+-- ---- the scale's entries
+pub has-occurs : (n : ℕ) (pcs : List ℕ) (pc : ℕ) → hasOf (take n pcs) pc ≡ true → Occurs (λ k. getD pcs k 0) n pc
+unfolding hasOf
+has-occurs zero pcs pc h = let e : _≡_ {A = ℕ} 0 1 = cc in absurd (omega arith)
+has-occurs (suc n) [] pc h = let e : _≡_ {A = ℕ} 0 1 = cc in absurd (omega arith)
+has-occurs (suc n) (x ∷ pcs) pc h = go (eqb x pc) refl (has-occurs n pcs pc) h
+  where
+    go : (t : Bool) → eqb x pc ≡ t → (hasOf (take n pcs) pc ≡ true → Occurs (λ k. getD pcs k 0) n pc) → cond t true (hasOf (take n pcs) pc) ≡ true
+        → Occurs (λ k. getD (x ∷ pcs) k 0) (suc n) pc
+    go true e r h = record { place = 0; until = zero-lt-suc n; is = eqb-true x pc e }
+    go false e r h = let o = r h in record { place = suc (o .place); until = suc-le-suc (o .until); is = o .is }

@@ -11,6 +11,7 @@ use lib.Dec.{leb, ltb, eqb}
 use lib.ListN.{length, getD, take, drop, set, replicate, drop-of-length-le, length-append, length-set, getD-replicate}
 use lib.Seq.{drop-cons, take-suc, take-at, getD-set-same, getD-set-other}
 use Rattle.laws.specs.Lists.{pad, filterOf}
+use Rattle.composer.specs.Chord.{rootClassOf}
 use Rattle.composer.specs.Lead.Scale.{inPool}
 use Rattle.composer.specs.Lead.Tones.{aboveOf, inChordOf, lowered, lowestFrom, lowestOf, isToneOf, isSungOf, noClass, kept, one, tonesIn, packed, clearedOf, listed, tonesInOf, hasClass, scaleNotesIn, scaleNotesOf, isOther, rankOf, closerOf, closest, nearestOf}
 use Rattle.composer.specs.Lead.Ground.{groundOf, groundFrom}
@@ -227,7 +228,7 @@ rootless-from chord pool root lo hi =
 pub ground-from : (style : LeadStyle) (chord : Chord) (pool : List Bool) (sung : Tones) → sung ≡ scaleNotesOf pool (style .lo) (style .hi) → groundFrom style chord sung ≡ groundOf style chord pool
 unfolding groundFrom groundOf
 ground-from style chord pool sung e =
-    rw (e, tones-from (chord .notes) pool (style .lo) (style .hi), rootless-from (chord .notes) pool (chord .«root_pc») (style .lo) (style .hi))
+    rw (e, tones-from (chord .notes) pool (style .lo) (style .hi), rootless-from (chord .notes) pool (rootClassOf chord) (style .lo) (style .hi))
 
 -- ---- at most one tone for each semitone
 one-few : (b : Bool) (x : ℕ) → length (one b x) ≤ 1

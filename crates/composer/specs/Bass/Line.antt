@@ -49,6 +49,10 @@ loopSOf beatS = mul binary32 (barSOf beatS) (ofBits binary32 0x4100_0000)
 abbrev pub bassPitchOf : ℕ → ℕ
 bassPitchOf pc = inOctaveFrom 31 pc
 
+-- a semitone under the next root
+abbrev pub pickupPitchOf : ℕ → ℕ
+pickupPitchOf pc = bassPitchOf pc - 1
+
 -- ---- the three kinds of note; each draws its lag, then its velocity
 unfoldable pub struckOf : NoiseStream → Float → ℕ → Spread → Spread → Strike
 struckOf s on midi lag velocity =
@@ -59,9 +63,8 @@ struckOf s on midi lag velocity =
 unfoldable pub rootNoteOf : NoiseStream → Float → BarPart → BassStyle → Strike
 rootNoteOf s on p style = struckOf s on (bassPitchOf (p .«root_pc»)) bassLag (style .velocity)
 
--- a semitone under the next root
 unfoldable pub pickupNoteOf : NoiseStream → Float → BarPart → Strike
-pickupNoteOf s on p = struckOf s on (bassPitchOf (p .«next_pc») - 1) pickupLag pickupVelocity
+pickupNoteOf s on p = struckOf s on (pickupPitchOf (p .«next_pc»)) pickupLag pickupVelocity
 
 abbrev pub laterVelocity : Spread → Spread
 laterVelocity v = record { base = sub binary32 (v .base) laterSofter; span = v .span }

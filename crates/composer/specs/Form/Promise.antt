@@ -4,13 +4,13 @@ use mathlib.Core.Path.{_≡_}
 use mathlib.Core.Bool.{Bool, true, false, _&&_}
 use mathlib.Core.Logic.{_⊎_}
 use Prim.Native.Nat.{ℕ, _+_, _-_, _*_, _/_, _≤_, _<_}
-use lib.ListN.{length}
+use lib.ListN.{length, getD}
 use Rattle.laws.specs.Runs.{Among, RunsAtMost, lacking}
 use Rattle.streams.specs.Stage.{streamOf}
 use Rattle.streams.specs.declared.stage.Stage.{Stage}
 use Rattle.composer.specs.Refusal.{Answer, Gives, Refuses}
 use Rattle.composer.specs.Form.{introBarsOf, bodyBarsOf, outroBarsOf}
-use Rattle.composer.specs.Form.Plays.{all}
+use Rattle.composer.specs.Form.Plays.{silent, all}
 use Rattle.composer.specs.Form.Decisions.{decideOf}
 use Rattle.composer.specs.Form.Body.{wholeBreak, cutHeard}
 use Rattle.composer.specs.Form.Song.{decisionsOf}
@@ -28,8 +28,8 @@ pub record BodyPromise (P : ℕ) (chord drums bass : ℕ → Bool) : Type 0 wher
   -- any 12 running include one with drums and bass
   pub together : (b : ℕ) → b + 12 ≤ 8 * P → Among b 12 (λ k. drums k && bass k)
   -- and in all
-  pub «drums-in-all» : lacking drums (8 * P) ≤ 3 * P - 4
-  pub «bass-in-all» : lacking bass (8 * P) ≤ 3 * P - 1
+  pub «drums-in-all» : lacking drums (8 * P) + 4 ≤ 3 * P
+  pub «bass-in-all» : lacking bass (8 * P) + 1 ≤ 3 * P
 
 -- what `plays` answers of song bar b, as document 01 has it
 abbrev pub playsAt : Form → ℕ → Answer Plays
@@ -52,6 +52,8 @@ pub record FormPromise (seed : ℕ) (f : Form) : Type 0 where
   pub «song-bars» : f .bars ≡ introBarsOf f + 8 * f .phrases + outroBarsOf f
   pub most : f .bars ≤ 64
   pub size : length (f .plays) ≡ 64
+  -- nothing plays past the song
+  pub rest : (b : ℕ) → f .bars ≤ b → getD (f .plays) b silent ≡ silent
   -- no bar of the song is refused
   pub found : (b : ℕ) → b < f .bars → (p : Plays) × (playsAt f b ≡ Gives p)
   pub body : BodyPromise (f .phrases) (bodyStrikes f (λ p. p .pad)) (bodyStrikes f (λ p. p .drums)) (bodyStrikes f (λ p. p .bass))

@@ -5,6 +5,7 @@ use Prim.Native.Nat.{ℕ, zero, suc, _+_, _-_, _*_, _%_, min}
 use lib.Dec.{leb, ltb, eqb}
 use lib.ListN.{length, take, getD, set, replicate}
 use Rattle.laws.specs.Lists.{pad, filterOf}
+use Rattle.composer.specs.Chord.{rootClassOf}
 use Rattle.composer.specs.Lead.Scale.{inPool}
 use Rattle.composer.specs.declared.chord.Chord.{Chord}
 use Rattle.composer.specs.declared.lead.tones.ChordTones.{ChordTones}
@@ -84,7 +85,7 @@ isOther pc n = not (eqb (n % 12) pc)
 abbrev pub chordTonesOf : Tones → Chord → ChordTones
 chordTonesOf notes chord =
     let tones = packed (filterOf (inChordOf (chord .notes)) (listed notes)) in
-    record { tones = tones; rootless = packed (filterOf (isOther (chord .«root_pc»)) (listed tones)) }
+    record { tones = tones; rootless = packed (filterOf (isOther (rootClassOf chord)) (listed tones)) }
 
 -- the tones without the root, where there are any
 abbrev pub strongOf : Tones → Tones → Tones

@@ -88,7 +88,7 @@ pub(crate) fn chord_tones(notes: Tones, chord: Chord) -> ChordTones
 {
     let members = chord.notes;
     let lowest = lowest_of(&members);
-    let root = chord.root_pc;
+    let root = chord.root_class();
     let all = notes.at;
     let count = notes.n;
     let mut at = [0u8; 20];

@@ -12,12 +12,12 @@ use Rattle.composer.proofs.bass.bass.Statement.{statement}
 use Rattle.composer.proofs.bass.bass.Tie as tie
 
 abbrev Inv-loop2 : tie.InvT-loop2
-Inv-loop2 beat-s chords knobs rhythms notes₀ count₀ stream₀ b next part i₀ i-end notes count stream i =
+Inv-loop2 beat-s chords knobs rhythms notes₀ count₀ stream₀ b next root-pc next-pc part i₀ i-end notes count stream i =
     (i ≤ i-end) × (i-end ≡ part .steps .n) × Playable part × (count₀ + i-end ≤ 104) × (count ≡ count₀ + i)
     × (barPlayed (record { notes = notes₀; count = count₀; stream = stream₀ }) part knobs beat-s i ≡ record { notes = notes; count = count; stream = stream })
 
 abbrev μ-loop2 : tie.MeasureT-loop2
-μ-loop2 beat-s chords knobs rhythms notes₀ count₀ stream₀ b next part i₀ i-end notes count stream i = i-end - i
+μ-loop2 beat-s chords knobs rhythms notes₀ count₀ stream₀ b next root-pc next-pc part i₀ i-end notes count stream i = i-end - i
 
 abbrev Inv-loop : tie.InvT-loop
 Inv-loop beat-s chords knobs rhythms notes₀ count₀ stream₀ b₀ notes count stream b =
@@ -39,6 +39,24 @@ loop-holds c = (omega arith, refl)
 add-next : tie.Need-add-next Inv-loop2 μ-loop2 Inv-loop μ-loop
 add-next c = search needs
 
+mul-chord : tie.Need-mul-chord Inv-loop2 μ-loop2 Inv-loop μ-loop
+mul-chord c = search needs
+
+array-copy-out-chord : tie.Need-array-copy-out-chord Inv-loop2 μ-loop2 Inv-loop μ-loop
+array-copy-out-chord c = search needs
+
+root-class-requires : tie.Need-root-class-requires Inv-loop2 μ-loop2 Inv-loop μ-loop
+root-class-requires c κs = search needs
+
+mul-next-chord : tie.Need-mul-next-chord Inv-loop2 μ-loop2 Inv-loop μ-loop
+mul-next-chord c = search needs
+
+array-copy-out-next-chord : tie.Need-array-copy-out-next-chord Inv-loop2 μ-loop2 Inv-loop μ-loop
+array-copy-out-next-chord c = search needs
+
+root-class-requires-2 : tie.Need-root-class-requires-2 Inv-loop2 μ-loop2 Inv-loop μ-loop
+root-class-requires-2 c κs = search needs
+
 mul-steps : tie.Need-mul-steps Inv-loop2 μ-loop2 Inv-loop μ-loop
 mul-steps c = search needs
 
@@ -51,34 +69,24 @@ mul-next-steps c = search needs
 array-copy-out-next-steps : tie.Need-array-copy-out-next-steps Inv-loop2 μ-loop2 Inv-loop μ-loop
 array-copy-out-next-steps c = search needs
 
-cast-t28 : tie.Need-cast-t28 Inv-loop2 μ-loop2 Inv-loop μ-loop
-cast-t28 c = search needs
+cast-t37 : tie.Need-cast-t37 Inv-loop2 μ-loop2 Inv-loop μ-loop
+cast-t37 c = search needs
 
-mul-t22 : tie.Need-mul-t22 Inv-loop2 μ-loop2 Inv-loop μ-loop
-mul-t22 c = search needs
-
-element-copy-out-t31 : tie.Need-element-copy-out-t31 Inv-loop2 μ-loop2 Inv-loop μ-loop
-element-copy-out-t31 c = search needs
-
-mul-t32 : tie.Need-mul-t32 Inv-loop2 μ-loop2 Inv-loop μ-loop
-mul-t32 c = search needs
-
-element-copy-out-t35 : tie.Need-element-copy-out-t35 Inv-loop2 μ-loop2 Inv-loop μ-loop
-element-copy-out-t35 c = search needs
-
-element-copy-out-t38 : tie.Need-element-copy-out-t38 Inv-loop2 μ-loop2 Inv-loop μ-loop
-element-copy-out-t38 c = search needs
+element-copy-out-t40 : tie.Need-element-copy-out-t40 Inv-loop2 μ-loop2 Inv-loop μ-loop
+element-copy-out-t40 c = search needs
 
 loop2-holds : tie.Need-loop2-holds Inv-loop2 μ-loop2 Inv-loop μ-loop
 unfolding barPlayed partOf
 loop2-holds c =
-    let l = c .before .before .before .before .loop in
-    let r = c .before .before .before .before .before .before .before in
+    let next = c .before .before .before in
+    let root = next .before .before in
+    let l = root .before .before .before .loop in
+    let r = root .before .before .before .before .before .before in
     let a = r .before .before .before in
     let drawn = r .bass-rhythms .result in
     let asks = turn-asks (a .args .h) (a .pre) (drawn .bars) (drawn-rising drawn (a .args .s) (r .bass-rhythms .ensures)) (r .before .bass-style .result) (a .args .beat-s) (noBass (drawn .stream)) (l .b) (omega arith) refl in
     let played = ap (λ (x : BassLane). x .count) (l .inv .1) in
-    (omega arith, refl, asks .0, omega (arith, asks .1, played), omega arith, refl)
+    (omega arith, refl, rw (next .root-class2 .ensures, root .root-class .ensures) (asks .0), omega (arith, asks .1, played), omega arith, refl)
 
 played-note-requires : tie.Need-played-note-requires Inv-loop2 μ-loop2 Inv-loop μ-loop
 played-note-requires c κs = let l = c .before .loop2 in (l .inv .2, omega arith)
@@ -114,11 +122,13 @@ loop-again : tie.Need-loop-again Inv-loop2 μ-loop2 Inv-loop μ-loop
 unfolding partOf
 loop-again c =
     let i = c .before .loop2 in
-    let l = c .before .before .before .before .before .before .loop in
-    let r = c .before .before .before .before .before .before .before .before .before in
+    let next = c .before .before .before .before .before in
+    let root = next .before .before in
+    let l = root .before .before .before .loop in
+    let r = root .before .before .before .before .before .before in
     let a = r .before .before .before .args in
     let drawn = r .bass-rhythms .result in
-    (omega arith, bars-on (a .h .bars) (drawn .bars) (r .before .bass-style .result) (a .beat-s) (noBass (drawn .stream)) (l .b) _ (l .inv .1) (i .i) (omega (arith, i .inv .1)) _ (i .inv .5))
+    (omega arith, bars-on (a .h .bars) (drawn .bars) (r .before .bass-style .result) (a .beat-s) (noBass (drawn .stream)) (l .b) _ (l .inv .1) (i .i) (omega (arith, i .inv .1)) _ (rw (next .root-class2 .ensures, root .root-class .ensures) at (i .inv .5)))
 
 returns : tie.Need-returns Inv-loop2 μ-loop2 Inv-loop μ-loop
 unfolding bassOf
@@ -140,16 +150,18 @@ bass-spec =
     bass-rhythms-requires
     loop-holds
     add-next
+    mul-chord
+    array-copy-out-chord
+    root-class-requires
+    mul-next-chord
+    array-copy-out-next-chord
+    root-class-requires-2
     mul-steps
     array-copy-out-steps
     mul-next-steps
     array-copy-out-next-steps
-    cast-t28
-    mul-t22
-    element-copy-out-t31
-    mul-t32
-    element-copy-out-t35
-    element-copy-out-t38
+    cast-t37
+    element-copy-out-t40
     loop2-holds
     played-note-requires
     mul-notes

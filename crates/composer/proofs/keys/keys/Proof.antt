@@ -9,7 +9,7 @@ use Rattle.composer.specs.Chord.{pastChord}
 use Rattle.composer.specs.Keys.{barTo, barOf, barsTo, keysOf}
 use Rattle.composer.specs.declared.chord.Chord.{Chord}
 use Rattle.composer.specs.declared.keys.KeysLane.{KeysLane}
-use Rattle.composer.proofs.keys.ShellLaws.{seventh-le, tonal-reachable, tonal-shell}
+use Rattle.composer.proofs.keys.ShellLaws.{tonal-seventh-le, tonal-shell}
 use Rattle.composer.proofs.keys.StrokeLaws.{laneOf, eighth-rest, eighth-shell, eighth-single}
 use borrow.Author.Needs.{needs}
 use borrow.Author.Tests.{not-true, not-false}
@@ -106,8 +106,7 @@ dyad-at-requires c κs =
     let sh = c .before .before .before .before .before .before .before .before .before .before .before in
     let l = sh .before .before .before in
     let d = l .before .before .before .before in
-    let r = tonal-reachable (d .args .t2) (d .pre) (l .loop .b) (omega arith) in
-    (rw (sh .shell-of .ensures) (seventh-le _ r), r .root-lt)
+    rw (sh .shell-of .ensures) (tonal-seventh-le (d .args .t2) (d .pre) (l .loop .b) (omega arith))
 
 mul-notes : tie.Need-mul-notes Inv-loop2 μ-loop2 Inv-loop μ-loop
 mul-notes c = omega (arith, room (c .before .before .before .before .before .before .before .before .before .before .before .before))

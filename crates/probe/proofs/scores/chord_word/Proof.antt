@@ -4,11 +4,14 @@ use borrow.Author.Needs.{needs}
 use Rattle.probe.proofs.scores.chord_word.Statement.{statement}
 use Rattle.probe.proofs.scores.chord_word.Tie as tie
 
+root-class-requires : tie.Need-root-class-requires
+root-class-requires c κs = search needs
+
 cast-result : tie.Need-cast-result
 cast-result c = search needs
 
 returns : tie.Need-returns
-returns c = rw (eq-eqb (c .before .args .k) 0 (c .if1 .taken))
+returns c = rw (eq-eqb (c .before .before .args .k) 0 (c .before .if1 .taken), c .root-class .ensures)
 
 sub-result : tie.Need-sub-result
 sub-result c = search needs
@@ -25,4 +28,4 @@ returns-2 c = rw (ne-eqb (c .before .before .args .k) 0 (c .before .if1 .left))
 pub chord-word-spec : {M : Type 1} → statement M
 chord-word-spec =
     tie.close
-    (tie.spec cast-result returns sub-result element-copy-out-result cast-result-2 returns-2)
+    (tie.spec root-class-requires cast-result returns sub-result element-copy-out-result cast-result-2 returns-2)

@@ -26,12 +26,15 @@ Inv-loop lowest root all count at₀ n₀ others₀ m₀ i₀ at n others m i =
 abbrev μ-loop : tie.MeasureT-loop
 μ-loop lowest root all count at₀ n₀ others₀ m₀ i₀ at n others m i = count - i
 
--- the note of a turn, and whether it is kept, as the code has them
+-- the note of a turn, the root, and whether the note is kept, as the code has them
 abbrev noteIn : tie.After-wide Inv-loop μ-loop → ℕ
-noteIn c = getD (c .before .before .before .before .before .before .before .args .notes .at) (c .before .before .loop .i) 0
+noteIn c = getD (c .before .before .before .before .before .before .before .before .args .notes .at) (c .before .before .loop .i) 0
+
+abbrev rootIn : tie.After-wide Inv-loop μ-loop → ℕ
+rootIn c = c .before .before .before .before .root-class .result
 
 abbrev keeps : tie.After-wide Inv-loop μ-loop → Bool
-keeps c = leb (getD (c .before .before .before .before .lowest-of .result) (noteIn c % 12) 0) (c .wide .result)
+keeps c = leb (getD (c .before .before .before .before .before .lowest-of .result) (noteIn c % 12) 0) (c .wide .result)
 
 slice-aggregate-lowest-of : tie.Need-slice-aggregate-lowest-of Inv-loop μ-loop
 slice-aggregate-lowest-of c = search needs
@@ -39,10 +42,13 @@ slice-aggregate-lowest-of c = search needs
 lowest-of-requires : tie.Need-lowest-of-requires Inv-loop μ-loop
 lowest-of-requires c κs = search needs
 
+root-class-requires : tie.Need-root-class-requires Inv-loop μ-loop
+root-class-requires c κs = search needs
+
 loop-holds : tie.Need-loop-holds Inv-loop μ-loop
 loop-holds c =
-    let a = c .before .before .before .before .args in
-    (omega arith, omega arith, omega arith, omega arith, λ chord e. (chosen-none (inChordOf chord) (a .notes .at), chosen-none (isUpper chord (a .chord .«root_pc»)) (a .notes .at)))
+    let a = c .before .before .before .before .before .args in
+    (omega arith, omega arith, omega arith, omega arith, λ chord e. (chosen-none (inChordOf chord) (a .notes .at), chosen-none (isUpper chord (c .before .root-class .result)) (a .notes .at)))
 
 array-read-x : tie.Need-array-read-x Inv-loop μ-loop
 array-read-x c = omega arith
@@ -75,9 +81,7 @@ cast-m : tie.Need-cast-m Inv-loop μ-loop
 cast-m c = search needs
 
 add-m : tie.Need-add-m Inv-loop μ-loop
-add-m c =
-    let a = c .before .before .before .before .before .before .before .args in
-    omega (arith, bit-few (keeps c && isOther (a .chord .«root_pc») (noteIn c)))
+add-m c = omega (arith, bit-few (keeps c && isOther (rootIn c) (noteIn c)))
 
 add-i : tie.Need-add-i Inv-loop μ-loop
 add-i c = omega arith
@@ -88,9 +92,9 @@ loop-less c = omega arith
 loop-again : tie.Need-loop-again Inv-loop μ-loop
 loop-again c =
     let l = c .before .before .loop in
-    let a = c .before .before .before .before .before .before .before .args in
+    let a = c .before .before .before .before .before .before .before .before .args in
     let all = a .notes .at in
-    let root = a .chord .«root_pc» in
+    let root = rootIn c in
     let x = noteIn c in
     let keep = keeps c in
     let k : length all ≡ 20 = search needs in
@@ -102,7 +106,7 @@ loop-again c =
       omega (arith, bit-few (keep && isOther root x)),
       λ chord e.
           let so-far = l .inv .4 chord e in
-          let is = ap (leb (getD (c .before .before .before .before .lowest-of .result) (x % 12) 0)) (w .0) ∙ ap (λ (t : List ℕ). isToneOf t x) e ∙ tone-is chord x x-lt in (
+          let is = ap (leb (getD (c .before .before .before .before .before .lowest-of .result) (x % 12) 0)) (w .0) ∙ ap (λ (t : List ℕ). isToneOf t x) e ∙ tone-is chord x x-lt in (
             chosen-on (inChordOf chord) all (l .i) (l .at) (l .n) keep (omega arith) (omega arith) is (so-far .0),
             chosen-on (isUpper chord root) all (l .i) (l .others) (l .m) (keep && isOther root x) (omega arith) (omega arith) (ap (λ (b : Bool). b && isOther root x) is) (so-far .1),
           ),
@@ -117,10 +121,11 @@ cleared-requires-2 c κs = search needs
 returns : tie.Need-returns Inv-loop μ-loop
 returns c =
     let l = c .before .before .before .loop in
-    let lowest = c .before .before .before .before .before .lowest-of in
-    let a = c .before .before .before .before .before .before .before .before .args in
+    let r = c .before .before .before .before .before in
+    let lowest = r .before .lowest-of in
+    let a = r .before .before .before .before .args in
     let chord = a .chord .notes in
-    let root = a .chord .«root_pc» in
+    let root = r .root-class .result in
     let w = l .inv .4 chord (lowest .ensures) in
     let e : l .i ≡ a .notes .n = omega arith in
     rw (
@@ -129,6 +134,7 @@ returns c =
       chosen-all (inChordOf chord) (a .notes) (l .i) (l .at) (l .n) e (w .0),
       chosen-all (isUpper chord root) (a .notes) (l .i) (l .others) (l .m) e (w .1),
       filtered-both (inChordOf chord) (isOther root) (listed (a .notes)),
+      r .root-class .ensures,
     )
 
 pub chord-tones-spec : {M : Type 1} → statement M
@@ -139,6 +145,7 @@ chord-tones-spec =
     μ-loop
     slice-aggregate-lowest-of
     lowest-of-requires
+    root-class-requires
     loop-holds
     array-read-x
     cast-keep
