@@ -37,7 +37,7 @@ room-written bytes b h = rw (le-ltb (length b) (length bytes) h)
 pub room-buffer : (bytes b : List ℕ) → length bytes ≤ length b → bufferOf b (Writes bytes) ≡ bytes ++ drop (length bytes) b
 room-buffer bytes b h = rw (le-ltb (length b) (length bytes) h)
 
-room-bytes : (bytes b : List ℕ) → length bytes ≤ length b → take (length bytes) (bufferOf b (Writes bytes)) ≡ bytes
+pub room-bytes : (bytes b : List ℕ) → length bytes ≤ length b → take (length bytes) (bufferOf b (Writes bytes)) ≡ bytes
 room-bytes bytes b h = rw (room-buffer bytes b h) (take-append-seam bytes (drop (length bytes) b))
 
 -- whatever the buffers held

@@ -1,19 +1,22 @@
 -- Demand 3 holds of every style and seed: a page is read back into its loop bar's own chord and events, those are what the
 -- composer promises, and as each loop bar has hits and bass, the pages have what the form's bars play. Assumes nothing.
-use mathlib.Core.Path.{_≡_, ap, subst}
-use mathlib.Core.Bool.{Bool, true}
+use mathlib.Core.Path.{_≡_, refl, ap, _∙_, subst}
+use mathlib.Core.Bool.{Bool, true, false}
 use mathlib.Core.List.{List, [], _++_}
 use Prim.Native.Nat.{ℕ, _+_, _*_, _≤_, _<_}
 use native.Mathlib.Omega.{arith}
-use borrow.Author.Tests.{lt-ltb}
-use lib.ListN.{length, getD, drop}
+use borrow.Author.Tests.{lt-ltb, ltb-true}
+use lib.Dec.{ltb}
+use lib.ListN.{length, getD, drop, List·getD-map}
 use Rattle.laws.specs.Lists.{joined}
+use Rattle.composer.specs.Bass.Promise.{SoundsIn}
+use Rattle.composer.specs.Chord.{pastChord}
 use Rattle.composer.specs.Compose.{composedOf}
 use Rattle.composer.specs.Form.{introBarsOf}
 use Rattle.composer.specs.Form.Promise.{BodyPromise, playsAt, strikes, bodyStrikes, FormPromise}
 use Rattle.composer.specs.Form.Song.{arrangeOf}
-use Rattle.composer.specs.Harmony.{notesOf}
-use Rattle.composer.specs.Promise.{ScorePromise}
+use Rattle.composer.specs.Harmony.{notesIn, notesOf}
+use Rattle.composer.specs.Promise.{Sings, ScorePromise}
 use Rattle.composer.specs.Refusal.{Answer, Gives}
 use Rattle.composer.specs.Style.{styleNumberOf}
 use Rattle.composer.specs.declared.form.Form.{Form}
@@ -25,7 +28,7 @@ use Rattle.composer.proofs.ComposeLaws.{song-promise}
 use Rattle.composer.proofs.form.Arranged.{arranged-promise}
 use Rattle.composer.proofs.form.PromiseLaws.{promise-more}
 use Rattle.pages.specs.Answer.{Writes, bytesOf, writtenOf, bufferOf, writtenAnswered}
-use Rattle.pages.specs.Demand3.{bodyOf, has, IsNote, LeadNote, BassNote, pageAt, bodyPage, Demand3}
+use Rattle.pages.specs.Demand3.{bodyOf, has, IsNote, pageAt, bodyPage, Demand3}
 use Rattle.pages.specs.Lane.{eventsOf, drawnFor}
 use Rattle.pages.specs.Page.{loopBarOf, shown, pageBytes, pageAsked}
 use Rattle.pages.specs.declared.lane.Lane.{Lane}
@@ -36,6 +39,11 @@ use Rattle.pages.proofs.ScoreLaws.{chord-some, hits-some, bass-some, le
 
 strikes-by : (layer : Plays → Bool) (a : Answer Plays) (p : Plays) → a ≡ Gives p → strikes layer a ≡ true → layer p ≡ true
 strikes-by layer a p e h = rw e at h
+
+-- what is not silent is shown whole
+shown-whole : (on : Bool) (xs : List ℕ) → ltb 0 (length (shown on xs)) ≡ true → shown on xs ≡ xs
+shown-whole true xs h = refl
+shown-whole false xs h = absurd (omega (arith, ltb-true 0 0 h))
 
 -- ---- the page of a song bar
 module _ (style : Style) (seed b : ℕ) (p : Plays) (plays : playsAt (arrangeOf seed) b ≡ Gives p) where
@@ -80,16 +88,23 @@ module _ (style : Style) (seed b : ℕ) (p : Plays) (plays : playsAt (arrangeOf 
   bass-has : p .bass ≡ true → has 0x08 page ≡ true
   bass-has e = rw (page-is, bass-body s p bar, e) (lt-ltb 0 (length (joined (drawnFor bar (eventsOf s Lane.Bass)))) (bass-some style s scale promise bar bar-lt))
 
+  -- its chord
+  chord-read : has 0x03 page ≡ true → bodyOf 0x03 page ≡ getD (s .«bar_chords») bar pastChord .notes
+  chord-read h =
+      let notes = getD (notesOf (s .«bar_chords»)) bar [] in
+      let body : bodyOf 0x03 page ≡ shown (p .pad) notes = rw page-is (chord-body s p bar) in
+      body ∙ shown-whole (p .pad) notes (rw body at h) ∙ List·getD-map notesIn (s .«bar_chords») bar pastChord
+
   -- its notes
-  lead-sings : (midi : ℕ) → IsNote 0x05 page midi → LeadNote style scale midi
+  lead-sings : (midi : ℕ) → IsNote 0x05 page midi → Sings style scale midi
   lead-sings midi n =
       let body : bodyOf 0x05 page ≡ joined (shown (p .keys) (drawnFor bar (eventsOf s Lane.Lead))) = rw page-is (lead-body s p bar) in
-      subst (LeadNote style scale) (n .2) (rw body (lead-shown style s scale promise bar bar-lt (p .keys) (n .0) (rw body at (n .1))))
+      subst (Sings style scale) (n .2) (rw body (lead-shown style s scale promise bar bar-lt (p .keys) (n .0) (rw body at (n .1))))
 
-  bass-sounds : (midi : ℕ) → IsNote 0x08 page midi → BassNote (notesOf (s .«bar_chords»)) bar midi
+  bass-sounds : (midi : ℕ) → IsNote 0x08 page midi → SoundsIn (s .«bar_chords») bar midi
   bass-sounds midi n =
       let body : bodyOf 0x08 page ≡ joined (shown (p .bass) (drawnFor bar (eventsOf s Lane.Bass))) = rw page-is (bass-body s p bar) in
-      subst (BassNote (notesOf (s .«bar_chords»)) bar) (n .2) (rw body (bass-shown style s scale promise bar bar-lt (p .bass) (n .0) (rw body at (n .1))))
+      subst (SoundsIn (s .«bar_chords») bar) (n .2) (rw body (bass-shown style s scale promise bar bar-lt (p .bass) (n .0) (rw body at (n .1))))
 
 -- ---- all pages of a song
 module _ (style : Style) (seed : ℕ) where
@@ -115,7 +130,10 @@ module _ (style : Style) (seed : ℕ) where
   demand-3 = record {
     written = λ b h. let k = form .found b h in page-written style seed b (k .0) (k .1);
     body = body;
-    entries = rw (composed-is style seed) (song-promise style seed .score .scale-least, song-promise style seed .score .scale-most);
+    entries = rw (composed-is style seed) (song-promise style seed .score .scale-least, song-promise style seed .score .scale-most, song-promise style seed .score .scale-size);
+    chord-count = rw (composed-is style seed) (song-promise style seed .score .chord-count);
+    chord-size = rw (composed-is style seed) (song-promise style seed .score .range .chord-size);
+    chord = rw (composed-is style seed) (λ b h. let k = form .found b h in chord-read style seed b (k .0) (k .1));
     lead = rw (composed-is style seed) (λ b h. let k = form .found b h in lead-sings style seed b (k .0) (k .1));
     bass = rw (composed-is style seed) (λ b h. let k = form .found b h in bass-sounds style seed b (k .0) (k .1));
   }

@@ -18,6 +18,7 @@ use Rattle.composer.specs.declared.note.Note.{Note}
 use Rattle.composer.specs.declared.score.Score.{Score}
 use Rattle.pages.specs.Lane.{widthOf, countIn, noteBytes, hitBytes, barIn, eventsOf, runOf, earlier, drawnFor, runIn}
 use Rattle.pages.specs.Page.{shown, barSize}
+use Rattle.pages.specs.Writable.{SizedLanes}
 use Rattle.pages.specs.declared.lane.Lane.{Lane}
 use Rattle.laws.proofs.Counts.{count-most, count-filter, count-map, count-on, all-kept}
 use Rattle.laws.proofs.Joins.{length-joined, times-on, joined-run-on}
@@ -25,6 +26,7 @@ use Rattle.laws.proofs.Keyed.{by, count-below, run-of-key, rises-sorted, sorted
 use Rattle.laws.proofs.Lists.{length-map-take, map-take-at}
 use Rattle.laws.proofs.Sorts.{all-every, all-map}
 use Rattle.laws.proofs.Writes.{wrote-then, wrote-as}
+use Rattle.pages.proofs.WritableLaws.{sized}
 
 -- ---- one event
 pub note-width : (n : Note) → length (noteBytes n) ≡ 14
@@ -79,7 +81,7 @@ module _ {A : Type 0} (bytes : A → List ℕ) (d : A) (w : ℕ) (xs : List A) (
       let here = map-take-at bytes xs n i d [] h k in
       wrote-as (sym (times-on w from i begun)) (ap (λ (l : List ℕ). joined (take (i - from) (drop from events)) ++ l) (sym here) ∙ sym on) (wrote-then v e)
 
-module _ (s : Score) (p : LanesPromise s) where
+module _ (s : Score) (p : SizedLanes s) where
   pub length-events : (lane : Lane) → length (eventsOf s lane) ≡ countIn s lane
   length-events Lane.Lead = length-map-take noteBytes (s .lead) (s .«lead_count») (omega (arith, p .lead .few, p .lead .size))
   length-events Lane.Keys = length-map-take noteBytes (s .keys) (s .«keys_count») (omega (arith, p .keys .few, p .keys .size))
@@ -95,6 +97,7 @@ module _ (s : Score) (p : LanesPromise s) where
   pub run-small : (lane : Lane) (n : ℕ) → n ≤ countIn s lane → widthOf lane * n < 65536
   run-small lane n h = width-small lane n (omega (arith, count-small lane))
 
+module _ (s : Score) (p : LanesPromise s) where
   -- ---- bars
   -- an event's first byte is its entry's bar
   pub lead-bar : (i : ℕ) → i < s .«lead_count» → barIn (getD (eventsOf s Lane.Lead) i []) ≡ getD (s .lead) i pastNote .bar
@@ -125,23 +128,23 @@ module _ (s : Score) (p : LanesPromise s) where
   pub before-on : (lane : Lane) (bar i : ℕ) → i < countIn s lane → i ≡ count (earlier bar) (take i (eventsOf s lane)) → ltb (barIn (getD (eventsOf s lane) i [])) bar ≡ true
       → i + 1 ≡ count (earlier bar) (take (i + 1) (eventsOf s lane))
   before-on lane bar i h c e =
-      let on = count-on (earlier bar) (eventsOf s lane) i [] (omega (arith, length-events lane)) in
+      let on = count-on (earlier bar) (eventsOf s lane) i [] (omega (arith, length-events s (sized s p) lane)) in
       sym (on ∙ rw e (omega (arith, c)))
 
   -- event i is not, nor is any after it
   pub before-first : (lane : Lane) (bar i : ℕ) → i < countIn s lane → i ≡ count (earlier bar) (take i (eventsOf s lane)) → ltb (barIn (getD (eventsOf s lane) i [])) bar ≡ false
       → i ≡ count (earlier bar) (eventsOf s lane)
-  before-first lane bar i h c e = sym (below-first barIn bar [] (eventsOf s lane) i (bars-sorted lane) (omega (arith, length-events lane)) (sym c) e)
+  before-first lane bar i h c e = sym (below-first barIn bar [] (eventsOf s lane) i (bars-sorted lane) (omega (arith, length-events s (sized s p) lane)) (sym c) e)
 
   -- nor are the first i of the next bar or later
   pub before-next : (lane : Lane) (bar i : ℕ) → i ≤ countIn s lane → i ≡ count (earlier bar) (take i (eventsOf s lane)) → i ≡ count (earlier (bar + 1)) (take i (eventsOf s lane))
   before-next lane bar i h c =
       let es = take i (eventsOf s lane) in
-      omega (arith, c, count-below barIn bar es, count-most (earlier (bar + 1)) es, length-take-le i (eventsOf s lane) (omega (arith, h, length-events lane)))
+      omega (arith, c, count-below barIn bar es, count-most (earlier (bar + 1)) es, length-take-le i (eventsOf s lane) (omega (arith, h, length-events s (sized s p) lane)))
 
   -- there is no event i
   pub before-last : (lane : Lane) (bar i : ℕ) → countIn s lane ≤ i → i ≡ count (earlier bar) (take i (eventsOf s lane)) → i ≡ count (earlier bar) (eventsOf s lane)
-  before-last lane bar i h c = c ∙ ap (count (earlier bar)) (take-all i (eventsOf s lane) (omega (arith, length-events lane)))
+  before-last lane bar i h c = c ∙ ap (count (earlier bar)) (take-all i (eventsOf s lane) (omega (arith, length-events s (sized s p) lane)))
 
   -- the run of a bar's events is what was drawn for it
   pub run-drawn : (lane : Lane) (on : Bool) (bar : ℕ) → runOf (runIn s lane on bar) (eventsOf s lane) ≡ shown on (drawnFor bar (eventsOf s lane))
@@ -153,7 +156,7 @@ module _ (s : Score) (p : LanesPromise s) where
   unfolding runIn
   run-within lane true bar =
       let es = eventsOf s lane in
-      (omega (arith, count-below barIn bar es), omega (arith, count-most (earlier (bar + 1)) es, length-events lane))
+      (omega (arith, count-below barIn bar es), omega (arith, count-most (earlier (bar + 1)) es, length-events s (sized s p) lane))
   run-within lane false bar = (omega arith, omega arith)
 
   pub run-length : (lane : Lane) (on : Bool) (bar : ℕ) → runIn s lane on bar .to - runIn s lane on bar .from ≡ length (shown on (drawnFor bar (eventsOf s lane)))

@@ -6,3 +6,4 @@ pub mod PageLaws
 pub mod ReadLaws
 pub mod ScoreLaws
 pub mod SheetLaws
+pub mod WritableLaws

@@ -34,11 +34,12 @@ use Rattle.pages.specs.declared.lane.Lane.{Lane}
 use Rattle.pages.specs.declared.lane.Run.{Run}
 use Rattle.pages.proofs.AnswerLaws.{asked-most}
 use Rattle.pages.proofs.BytesLaws.{length-field}
+use Rattle.pages.proofs.WritableLaws.{sized}
 use Rattle.pages.proofs.LaneLaws.{note-bar, hit-bar, count-small, run-drawn, run-within, run-length, drawn-count, shown-size}
 
 -- a bar's chord has four notes
 pub chord-notes : (s : Score) → Chorded s → (bar : ℕ) → bar < 8 → length (getD (notesOf (s .«bar_chords»)) bar []) ≡ 4
-chord-notes s p bar h = ap length (List·getD-map notesIn (s .«bar_chords») bar pastChord ∙ p bar h .notes)
+chord-notes s p bar h = ap length (List·getD-map notesIn (s .«bar_chords») bar pastChord) ∙ p bar h
 
 chord-length : (s : Score) → Chorded s → (on : Bool) (bar : ℕ) → bar < 8 → length (chordField s on bar) ≡ 3 + chordSize on
 chord-length s p true bar h = omega (arith, length-field 0x03 (getD (notesOf (s .«bar_chords»)) bar []), chord-notes s p bar h)
@@ -72,7 +73,7 @@ page-length s q p bar h =
 -- ---- by the runs of its events
 module _ (s : Score) (promise : LanesPromise s) where
   pub run-held : (lane : Lane) (on : Bool) (bar : ℕ) → Held (runIn s lane on bar)
-  run-held lane on bar = (run-within s promise lane on bar .0, omega (arith, run-within s promise lane on bar, count-small s promise lane))
+  run-held lane on bar = (run-within s promise lane on bar .0, omega (arith, run-within s promise lane on bar, count-small s (sized s promise) lane))
 
   pub runs-size : (p : Plays) (bar : ℕ) → runsSize (p .pad) (runsIn s p bar) ≡ pageSize s p bar
   runs-size p bar =
@@ -125,7 +126,7 @@ song-most style seed b =
     let s = composedOf style seed .score in
     let bar = loopBarOf (arrangeOf seed) b in
     let song = song-promise style seed .score in
-    by-most (playsOf (arrangeOf seed) b) s bar 653 (λ p. omega (arith, page-length s (song .chords) p bar (omega arith), bars-most s p bar (song .bars)))
+    by-most (playsOf (arrangeOf seed) b) s bar 653 (λ p. omega (arith, page-length s (song .range .chord-size) p bar (omega arith), bars-most s p bar (song .bars)))
 
 pub page-most : (style seed b : ℕ) → length (bytesOf (pageAsked style seed b)) ≤ 653
 unfolding pageAsked

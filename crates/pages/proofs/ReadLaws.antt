@@ -18,23 +18,23 @@ use Rattle.pages.specs.Lane.{eventsOf, drawnFor}
 use Rattle.pages.specs.Page.{shown, pageBytes}
 use Rattle.pages.specs.declared.lane.Lane.{Lane}
 
-size-back : (x : ℕ) → x / 256 * 256 + x % 256 ≡ x
+pub size-back : (x : ℕ) → x / 256 * 256 + x % 256 ≡ x
 size-back x = omega arith
 
 -- the field that is asked for
-body-here : (n tag : ℕ) (body rest : List ℕ) → bodyIn (suc n) tag (field tag body ++ rest) ≡ body
+pub body-here : (n tag : ℕ) (body rest : List ℕ) → bodyIn (suc n) tag (field tag body ++ rest) ≡ body
 unfolding bodyIn field
 body-here n tag body rest = rw (eq-eqb tag tag refl, size-back (length body)) (take-append-seam body rest)
 
 -- another one is passed
-body-later : (n tag other : ℕ) (body rest : List ℕ) → eqb other tag ≡ false → bodyIn (suc n) tag (field other body ++ rest) ≡ bodyIn n tag rest
+pub body-later : (n tag other : ℕ) (body rest : List ℕ) → eqb other tag ≡ false → bodyIn (suc n) tag (field other body ++ rest) ≡ bodyIn n tag rest
 unfolding bodyIn field
 body-later n tag other body rest e =
     let three : 3 + length body ≡ suc (suc (suc (length body))) = omega arith in
     rw (e, size-back (length body), three) (ap (bodyIn n tag) (drop-append-seam body rest))
 
 -- the last field of all
-body-last : (n tag : ℕ) (body : List ℕ) → bodyIn (suc n) tag (field tag body) ≡ body
+pub body-last : (n tag : ℕ) (body : List ℕ) → bodyIn (suc n) tag (field tag body) ≡ body
 body-last n tag body = ap (bodyIn (suc n) tag) (sym (append-nil (field tag body))) ∙ body-here n tag body []
 
 module _ (s : Score) (p : Plays) (bar : ℕ) where

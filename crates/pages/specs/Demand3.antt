@@ -1,20 +1,21 @@
 -- Demand 3: one claim about all pages of a song, in the words of document 01. Definitions only.
 use mathlib.Core.Path.{_≡_}
-use mathlib.Core.Bool.{Bool, cond}
+use mathlib.Core.Bool.{Bool, true, cond}
 use mathlib.Core.List.{List, [], _++_}
-use Prim.Native.Nat.{ℕ, zero, suc, _+_, _*_, _%_, _≤_, _<_}
+use Prim.Native.Nat.{ℕ, zero, suc, _+_, _*_, _≤_, _<_}
 use lib.Dec.{eqb, ltb}
 use lib.ListN.{length, getD, take, drop}
-use Rattle.laws.specs.Lanes.{Occurs}
+use Rattle.composer.specs.Bass.Promise.{SoundsIn}
+use Rattle.composer.specs.Chord.{pastChord}
 use Rattle.composer.specs.Compose.{composeOf}
 use Rattle.composer.specs.Form.{introBarsOf}
 use Rattle.composer.specs.Form.Promise.{BodyPromise}
 use Rattle.composer.specs.Form.Song.{arrangeOf}
-use Rattle.composer.specs.Harmony.{notesOf}
+use Rattle.composer.specs.Promise.{Sings}
 use Rattle.composer.specs.Refusal.{Gives}
-use Rattle.composer.specs.Style.{styleNumberOf, leadStyleOf}
+use Rattle.composer.specs.Style.{styleNumberOf}
+use Rattle.composer.specs.declared.chord.Chord.{Chord}
 use Rattle.composer.specs.declared.compose.Composed.{Composed}
-use Rattle.composer.specs.declared.harmony.Scale.{Scale}
 use Rattle.composer.specs.declared.style.Style.{Style}
 use Rattle.pages.specs.Answer.{bytesOf, writtenOf, bufferOf, writtenAnswered}
 use Rattle.pages.specs.Page.{loopBarOf, pageAsked}
@@ -39,23 +40,14 @@ has tag page = ltb 0 (length (bodyOf tag page))
 abbrev pub IsNote : ℕ → List ℕ → ℕ → Type 0
 IsNote tag page midi = (i : ℕ) × (14 * i < length (bodyOf tag page)) × (getD (bodyOf tag page) (14 * i + 5) 0 ≡ midi)
 
--- ---- what a note may be
--- in the style's range, its class one of the 5 or 6 entries of the melody scale
-pub record LeadNote (style : Style) (scale : Scale) (midi : ℕ) : Type 0 where
-  pub least : leadStyleOf style .lo ≤ midi
-  pub most : midi ≤ leadStyleOf style .hi
-  pub class : Occurs (λ k. getD (scale .pcs) k 0) (scale .n) (midi % 12)
-
--- modulo 12: the root or the fifth of the bar's chord, or the next root less 1, loop bar 0 following 7
-pub data BassNote (chords : List (List ℕ)) (bar midi : ℕ) : Type 0 where
-  root : midi % 12 ≡ getD (getD chords bar []) 0 0 % 12 → BassNote chords bar midi
-  fifth : midi % 12 ≡ getD (getD chords bar []) 2 0 % 12 → BassNote chords bar midi
-  under : midi % 12 ≡ (getD (getD chords ((bar + 1) % 8) []) 0 0 + 11) % 12 → BassNote chords bar midi
-
 -- ---- all pages of a song
 -- what compose gives for this style and seed
 abbrev pub songOf : Style → ℕ → Composed
 songOf style seed = composeOf (styleNumberOf style) seed
+
+-- the chord of a loop bar
+abbrev pub chordAt : Style → ℕ → ℕ → Chord
+chordAt style seed bar = getD (songOf style seed .score .«bar_chords») bar pastChord
 
 -- the page that bar page writes for song bar b
 abbrev pub pageAt : Style → ℕ → ℕ → List ℕ
@@ -65,16 +57,23 @@ pageAt style seed b = bytesOf (pageAsked (styleNumberOf style) seed b)
 abbrev pub bodyPage : Style → ℕ → ℕ → List ℕ
 bodyPage style seed b = pageAt style seed (introBarsOf (arrangeOf seed) + b)
 
+-- what a lead note and a bass note may be is the composer's `Sings` and `SoundsIn`
 pub record Demand3 (style : Style) (seed : ℕ) : Type 0 where
-  -- for every song bar, intro and outro included, bar page writes this page into a buffer long enough
+  -- for every song bar, intro and outro included, bar page writes this page into a buffer long enough: by the contract of
+  -- `bar_page`, its answer is this `writtenOf` and the buffer afterwards this `bufferOf`
   pub written : (b : ℕ) → b < arrangeOf seed .bars → (buf : List ℕ) → length (pageAt style seed b) ≤ length buf
       → (writtenAnswered (writtenOf (length buf) (pageAsked (styleNumberOf style) seed b)) ≡ Gives (length (pageAt style seed b)))
       × (bufferOf buf (pageAsked (styleNumberOf style) seed b) ≡ pageAt style seed b ++ drop (length (pageAt style seed b)) buf)
   -- which pages of the body have chord, hits and bass; P is the number of phrases in the seed's form
   pub body : BodyPromise (arrangeOf seed .phrases) (λ b. has 0x03 (bodyPage style seed b)) (λ b. has 0x07 (bodyPage style seed b)) (λ b. has 0x08 (bodyPage style seed b))
-  -- the melody scale has 5 or 6 entries
-  pub entries : (5 ≤ songOf style seed .scale .n) × (songOf style seed .scale .n ≤ 6)
+  -- the melody scale has 5 or 6 entries in an array of six, and the song eight chords of four notes: so no note below is
+  -- compared with what would stand past an end
+  pub entries : (5 ≤ songOf style seed .scale .n) × (songOf style seed .scale .n ≤ 6) × (length (songOf style seed .scale .pcs) ≡ 6)
+  pub chord-count : length (songOf style seed .score .«bar_chords») ≡ 8
+  pub chord-size : (bar : ℕ) → bar < 8 → length (chordAt style seed bar .notes) ≡ 4
+  -- a page that has 0x03 has the notes of its loop bar's chord there
+  pub chord : (b : ℕ) → b < arrangeOf seed .bars → has 0x03 (pageAt style seed b) ≡ true → bodyOf 0x03 (pageAt style seed b) ≡ chordAt style seed (loopBarOf (arrangeOf seed) b) .notes
   -- every lead note and every bass note of every page
-  pub lead : (b : ℕ) → b < arrangeOf seed .bars → (midi : ℕ) → IsNote 0x05 (pageAt style seed b) midi → LeadNote style (songOf style seed .scale) midi
+  pub lead : (b : ℕ) → b < arrangeOf seed .bars → (midi : ℕ) → IsNote 0x05 (pageAt style seed b) midi → Sings style (songOf style seed .scale) midi
   pub bass : (b : ℕ) → b < arrangeOf seed .bars → (midi : ℕ) → IsNote 0x08 (pageAt style seed b) midi
-      → BassNote (notesOf (songOf style seed .score .«bar_chords»)) (loopBarOf (arrangeOf seed) b) midi
+      → SoundsIn (songOf style seed .score .«bar_chords») (loopBarOf (arrangeOf seed) b) midi

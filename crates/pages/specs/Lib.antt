@@ -4,3 +4,4 @@ pub mod Demand3
 pub mod Lane
 pub mod Page
 pub mod Sheet
+pub mod Writable

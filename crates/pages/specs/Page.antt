@@ -1,10 +1,11 @@
 -- The bar page: what one bar of the song shows. Definitions only.
+use mathlib.Core.Path.{_≡_}
 use mathlib.Core.Bool.{Bool, cond}
 use mathlib.Core.List.{List, [], _++_}
 use Prim.Native.Nat.{ℕ, _+_, _*_, _%_, _<_}
 use lib.ListN.{length, getD}
 use Rattle.laws.specs.Lists.{joined}
-use Rattle.composer.specs.Chord.{pastChord, RootPosition}
+use Rattle.composer.specs.Chord.{pastChord}
 use Rattle.composer.specs.Compose.{composeOf}
 use Rattle.composer.specs.Form.{leadInOf}
 use Rattle.composer.specs.Form.Ask.{playsOf}
@@ -30,7 +31,7 @@ shown on xs = cond on xs []
 
 -- each loop bar has a chord, of four notes
 abbrev pub Chorded : Score → Type 0
-Chorded s = (b : ℕ) → b < 8 → RootPosition (getD (s .«bar_chords») b pastChord)
+Chorded s = (b : ℕ) → b < 8 → length (getD (s .«bar_chords») b pastChord .notes) ≡ 4
 
 -- that bar's chord
 abbrev pub chordField : Score → Bool → ℕ → List ℕ

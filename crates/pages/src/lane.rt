@@ -4,10 +4,10 @@ ghost use Prim.Native.Nat.{_+_, _-_, _*_, _<_, _≤_};
 ghost use lib.ListN.{length};
 ghost use Rattle.laws.specs.Lists.{joined};
 ghost use Rattle.laws.specs.Writes.{Wrote};
-ghost use Rattle.composer.specs.Plain.{PlainNote, PlainHit};
-ghost use Rattle.composer.specs.Promise.{LanesPromise, EventsPromise};
+ghost use Rattle.composer.specs.Promise.{LanesPromise};
 ghost use Rattle.pages.specs.Bytes.{field};
 ghost use Rattle.pages.specs.Lane.{tagOf, widthOf, countIn, noteBytes, hitBytes, eventsOf, runOf, barRun, runIn};
+ghost use Rattle.pages.specs.Writable.{FiniteNote, FiniteHit, Writable};
 ghost use Rattle.pages.specs.declared.lane.Lane.{Lane};
 use crate::put::put_f32;
 use crate::put::put_head;
@@ -68,7 +68,7 @@ impl Lane {
 }
 
 fn put_note(buf: &mut [u8], at: usize, n: Note) -> usize
-    requires { ⌜ PlainNote n ⌝ }
+    requires { ⌜ FiniteNote n ⌝ }
     requires { ⌜ at + 14 ≤ length (now buf) ⌝ }
     ensures { λ r. ⌜ Wrote (now (buf .entry)) (now (buf .exit)) at r 14 (noteBytes n) ⌝ }
 {
@@ -80,7 +80,7 @@ fn put_note(buf: &mut [u8], at: usize, n: Note) -> usize
 }
 
 fn put_hit(buf: &mut [u8], at: usize, h: Hit) -> usize
-    requires { ⌜ PlainHit h ⌝ }
+    requires { ⌜ FiniteHit h ⌝ }
     requires { ⌜ at + 10 ≤ length (now buf) ⌝ }
     ensures { λ r. ⌜ Wrote (now (buf .entry)) (now (buf .exit)) at r 10 (hitBytes h) ⌝ }
 {
@@ -94,7 +94,7 @@ fn put_hit(buf: &mut [u8], at: usize, h: Hit) -> usize
 
 // The lead's notes from `run.from` on, before `run.to`.
 fn put_lead(buf: &mut [u8], at: usize, s: Score, run: Run) -> usize
-    requires { ⌜ EventsPromise s ⌝ }
+    requires { ⌜ Writable s ⌝ }
     requires { ⌜ (run .from ≤ run .to) × (run .to ≤ countIn s Lane.Lead) ⌝ }
     requires { ⌜ at + 14 * (run .to - run .from) ≤ length (now buf) ⌝ }
     ensures { λ r. ⌜ Wrote (now (buf .entry)) (now (buf .exit)) at r (14 * (run .to - run .from)) (joined (runOf run (eventsOf s Lane.Lead))) ⌝ }
@@ -112,7 +112,7 @@ fn put_lead(buf: &mut [u8], at: usize, s: Score, run: Run) -> usize
 
 // The keys' notes from `run.from` on, before `run.to`.
 fn put_keys(buf: &mut [u8], at: usize, s: Score, run: Run) -> usize
-    requires { ⌜ EventsPromise s ⌝ }
+    requires { ⌜ Writable s ⌝ }
     requires { ⌜ (run .from ≤ run .to) × (run .to ≤ countIn s Lane.Keys) ⌝ }
     requires { ⌜ at + 14 * (run .to - run .from) ≤ length (now buf) ⌝ }
     ensures { λ r. ⌜ Wrote (now (buf .entry)) (now (buf .exit)) at r (14 * (run .to - run .from)) (joined (runOf run (eventsOf s Lane.Keys))) ⌝ }
@@ -130,7 +130,7 @@ fn put_keys(buf: &mut [u8], at: usize, s: Score, run: Run) -> usize
 
 // The drums' hits from `run.from` on, before `run.to`.
 fn put_hits(buf: &mut [u8], at: usize, s: Score, run: Run) -> usize
-    requires { ⌜ EventsPromise s ⌝ }
+    requires { ⌜ Writable s ⌝ }
     requires { ⌜ (run .from ≤ run .to) × (run .to ≤ countIn s Lane.Hits) ⌝ }
     requires { ⌜ at + 10 * (run .to - run .from) ≤ length (now buf) ⌝ }
     ensures { λ r. ⌜ Wrote (now (buf .entry)) (now (buf .exit)) at r (10 * (run .to - run .from)) (joined (runOf run (eventsOf s Lane.Hits))) ⌝ }
@@ -148,7 +148,7 @@ fn put_hits(buf: &mut [u8], at: usize, s: Score, run: Run) -> usize
 
 // The bass's notes from `run.from` on, before `run.to`.
 fn put_bass(buf: &mut [u8], at: usize, s: Score, run: Run) -> usize
-    requires { ⌜ EventsPromise s ⌝ }
+    requires { ⌜ Writable s ⌝ }
     requires { ⌜ (run .from ≤ run .to) × (run .to ≤ countIn s Lane.Bass) ⌝ }
     requires { ⌜ at + 14 * (run .to - run .from) ≤ length (now buf) ⌝ }
     ensures { λ r. ⌜ Wrote (now (buf .entry)) (now (buf .exit)) at r (14 * (run .to - run .from)) (joined (runOf run (eventsOf s Lane.Bass))) ⌝ }
@@ -166,7 +166,7 @@ fn put_bass(buf: &mut [u8], at: usize, s: Score, run: Run) -> usize
 
 // A run of a lane's events.
 fn put_events(buf: &mut [u8], at: usize, s: Score, lane: Lane, run: Run) -> usize
-    requires { ⌜ EventsPromise s ⌝ }
+    requires { ⌜ Writable s ⌝ }
     requires { ⌜ (run .from ≤ run .to) × (run .to ≤ countIn s lane) ⌝ }
     requires { ⌜ at + widthOf lane * (run .to - run .from) ≤ length (now buf) ⌝ }
     ensures { λ r. ⌜ Wrote (now (buf .entry)) (now (buf .exit)) at r (widthOf lane * (run .to - run .from)) (joined (runOf run (eventsOf s lane))) ⌝ }
@@ -181,7 +181,7 @@ fn put_events(buf: &mut [u8], at: usize, s: Score, lane: Lane, run: Run) -> usiz
 
 // A run of a lane's events as the lane's field.
 pub(crate) fn put_run(buf: &mut [u8], at: usize, s: Score, lane: Lane, run: Run) -> usize
-    requires { ⌜ EventsPromise s ⌝ }
+    requires { ⌜ Writable s ⌝ }
     requires { ⌜ (run .from ≤ run .to) × (run .to ≤ countIn s lane) ⌝ }
     requires { ⌜ at + (3 + widthOf lane * (run .to - run .from)) ≤ length (now buf) ⌝ }
     ensures { λ r. ⌜ Wrote (now (buf .entry)) (now (buf .exit)) at r (3 + widthOf lane * (run .to - run .from)) (field (tagOf lane) (joined (runOf run (eventsOf s lane)))) ⌝ }

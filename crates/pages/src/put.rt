@@ -4,11 +4,11 @@ ghost use mathlib.Core.Path.{_≡_};
 ghost use Prim.Native.Nat.{_+_, _*_, _/_, _%_, _<_, _≤_};
 ghost use lib.Dec.{T};
 ghost use lib.ListN.{length};
-ghost use Rattle.laws.specs.Floats.{nonneg};
+ghost use lib.Ieee.Scale.{finite};
 ghost use Rattle.laws.specs.Writes.{Wrote};
 ghost use Rattle.pages.specs.Bytes.{be16, be32, be64, f32Bytes, head};
 
-pub(crate) fn put_u8(buf: &mut [u8], at: usize, x: u8) -> usize
+pub fn put_u8(buf: &mut [u8], at: usize, x: u8) -> usize
     requires { ⌜ at + 1 ≤ length (now buf) ⌝ }
     ensures { λ r. ⌜ Wrote (now (buf .entry)) (now (buf .exit)) at r 1 (x ∷ []) ⌝ }
 {
@@ -16,7 +16,7 @@ pub(crate) fn put_u8(buf: &mut [u8], at: usize, x: u8) -> usize
     at + 1
 }
 
-fn put_u16(buf: &mut [u8], at: usize, x: u16) -> usize
+pub fn put_u16(buf: &mut [u8], at: usize, x: u16) -> usize
     requires { ⌜ at + 2 ≤ length (now buf) ⌝ }
     ensures { λ r. ⌜ Wrote (now (buf .entry)) (now (buf .exit)) at r 2 (be16 x) ⌝ }
 {
@@ -31,7 +31,7 @@ fn turned(x: u32) -> u32
     ((x % 256 * 256 + x / 256 % 256) * 256 + x / 65536 % 256) * 256 + x / 16777216
 }
 
-fn put_u32(buf: &mut [u8], at: usize, x: u32) -> usize
+pub fn put_u32(buf: &mut [u8], at: usize, x: u32) -> usize
     requires { ⌜ at + 4 ≤ length (now buf) ⌝ }
     ensures { λ r. ⌜ Wrote (now (buf .entry)) (now (buf .exit)) at r 4 (be32 x) ⌝ }
 {
@@ -42,7 +42,7 @@ fn put_u32(buf: &mut [u8], at: usize, x: u32) -> usize
     put_u8(buf, c, (y / 256 / 256 / 256) as u8)
 }
 
-pub(crate) fn put_u64(buf: &mut [u8], at: usize, x: u64) -> usize
+pub fn put_u64(buf: &mut [u8], at: usize, x: u64) -> usize
     requires { ⌜ at + 8 ≤ length (now buf) ⌝ }
     ensures { λ r. ⌜ Wrote (now (buf .entry)) (now (buf .exit)) at r 8 (be64 x) ⌝ }
 {
@@ -50,9 +50,9 @@ pub(crate) fn put_u64(buf: &mut [u8], at: usize, x: u64) -> usize
     put_u32(buf, a, (x % 4294967296) as u32)
 }
 
-// The bits of x, which is no NaN: nothing tests for one.
-pub(crate) fn put_f32(buf: &mut [u8], at: usize, x: f32) -> usize
-    requires { ⌜ T (nonneg x) ⌝ }
+// The bits of x, which is finite and so no NaN: nothing tests for one.
+pub fn put_f32(buf: &mut [u8], at: usize, x: f32) -> usize
+    requires { ⌜ T (finite x) ⌝ }
     requires { ⌜ at + 4 ≤ length (now buf) ⌝ }
     ensures { λ r. ⌜ Wrote (now (buf .entry)) (now (buf .exit)) at r 4 (f32Bytes x) ⌝ }
 {
@@ -60,7 +60,7 @@ pub(crate) fn put_f32(buf: &mut [u8], at: usize, x: f32) -> usize
 }
 
 // The head of a field: its tag and its body's length.
-pub(crate) fn put_head(buf: &mut [u8], at: usize, tag: u8, size: usize) -> usize
+pub fn put_head(buf: &mut [u8], at: usize, tag: u8, size: usize) -> usize
     requires { ⌜ size < 65536 ⌝ }
     requires { ⌜ at + 3 ≤ length (now buf) ⌝ }
     ensures { λ r. ⌜ Wrote (now (buf .entry)) (now (buf .exit)) at r 3 (head tag size) ⌝ }
@@ -70,7 +70,7 @@ pub(crate) fn put_head(buf: &mut [u8], at: usize, tag: u8, size: usize) -> usize
 }
 
 // Bytes as they stand.
-pub(crate) fn put_bytes(buf: &mut [u8], at: usize, bytes: &[u8]) -> usize
+pub fn put_bytes(buf: &mut [u8], at: usize, bytes: &[u8]) -> usize
     requires { ⌜ at + length (now bytes) ≤ length (now buf) ⌝ }
     ensures { λ r. ⌜ Wrote (now (buf .entry)) (now (buf .exit)) at r (length (now (bytes .entry))) (now (bytes .entry)) ⌝ }
 {

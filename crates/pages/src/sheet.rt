@@ -5,12 +5,11 @@ ghost use Prim.Native.Nat.{_+_, _*_, _≤_};
 ghost use lib.ListN.{length};
 ghost use Rattle.laws.specs.Lists.{joined};
 ghost use Rattle.laws.specs.Writes.{Wrote};
-ghost use Rattle.composer.specs.Plain.{PlainPromise};
-ghost use Rattle.composer.specs.Promise.{LanesPromise, EventsPromise};
 ghost use Rattle.pages.specs.Answer.{Writes, writtenOf, bufferOf};
 ghost use Rattle.pages.specs.Lane.{widthOf, countIn};
 ghost use Rattle.pages.specs.Page.{Chorded};
 ghost use Rattle.pages.specs.Sheet.{nameField, tempoField, chordsField, scaleField, songBytes, laneField, lanesSize, lanesBytes, endsField, playsBytes, playsField, formBytes, sheetSize, sheetBytes, sheetAsked};
+ghost use Rattle.pages.specs.Writable.{SizedLanes, FiniteEvents, Writable};
 use crate::answer::Written;
 use crate::lane::Lane;
 use crate::lane::Run;
@@ -46,7 +45,7 @@ fn put_name(buf: &mut [u8], at: usize, seed: u64, s: Score) -> usize
 
 // 0x02: tempo.
 fn put_tempo(buf: &mut [u8], at: usize, s: Score) -> usize
-    requires { ⌜ PlainPromise s ⌝ }
+    requires { ⌜ FiniteEvents s ⌝ }
     requires { ⌜ at + 7 ≤ length (now buf) ⌝ }
     ensures { λ r. ⌜ Wrote (now (buf .entry)) (now (buf .exit)) at r 7 (tempoField s) ⌝ }
 {
@@ -94,7 +93,7 @@ fn put_scale(buf: &mut [u8], at: usize, scale: Scale) -> usize
 
 // What a song is before its events.
 fn put_song(buf: &mut [u8], at: usize, seed: u64, s: Score, scale: Scale) -> usize
-    requires { ⌜ PlainPromise s ⌝ }
+    requires { ⌜ FiniteEvents s ⌝ }
     requires { ⌜ scale .n ≤ 6 ⌝ }
     requires { ⌜ at + (58 + scale .n) ≤ length (now buf) ⌝ }
     ensures { λ r. ⌜ Wrote (now (buf .entry)) (now (buf .exit)) at r (58 + scale .n) (songBytes seed s scale) ⌝ }
@@ -107,7 +106,7 @@ fn put_song(buf: &mut [u8], at: usize, seed: u64, s: Score, scale: Scale) -> usi
 
 // A whole lane.
 fn put_lane(buf: &mut [u8], at: usize, s: Score, lane: Lane) -> usize
-    requires { ⌜ EventsPromise s ⌝ }
+    requires { ⌜ Writable s ⌝ }
     requires { ⌜ at + (3 + widthOf lane * countIn s lane) ≤ length (now buf) ⌝ }
     ensures { λ r. ⌜ Wrote (now (buf .entry)) (now (buf .exit)) at r (3 + widthOf lane * countIn s lane) (laneField s lane) ⌝ }
 {
@@ -118,7 +117,7 @@ fn put_lane(buf: &mut [u8], at: usize, s: Score, lane: Lane) -> usize
 
 // 0x05 to 0x08: the lanes.
 fn put_lanes(buf: &mut [u8], at: usize, s: Score) -> usize
-    requires { ⌜ EventsPromise s ⌝ }
+    requires { ⌜ Writable s ⌝ }
     requires { ⌜ at + lanesSize s ≤ length (now buf) ⌝ }
     ensures { λ r. ⌜ Wrote (now (buf .entry)) (now (buf .exit)) at r (lanesSize s) (lanesBytes s) ⌝ }
 {
@@ -197,8 +196,9 @@ fn put_form(buf: &mut [u8], at: usize, f: Form) -> usize
     put_plays(buf, a, f)
 }
 
-fn sheet_size(s: Score, scale: Scale, f: Form) -> usize
-    requires { ⌜ LanesPromise s ⌝ }
+// Its length.
+pub fn sheet_size(s: Score, scale: Scale, f: Form) -> usize
+    requires { ⌜ SizedLanes s ⌝ }
     requires { ⌜ (scale .n ≤ 6) × (f .bars ≤ 64) ⌝ }
     ensures { λ r. ⌜ r ≡ sheetSize s scale f ⌝ }
 {
@@ -206,8 +206,9 @@ fn sheet_size(s: Score, scale: Scale, f: Form) -> usize
     82 + scale.n + 14 * notes + 10 * s.hit_count + f.bars as usize
 }
 
-fn put_sheet(buf: &mut [u8], seed: u64, s: Score, scale: Scale, f: Form) -> usize
-    requires { ⌜ EventsPromise s ⌝ }
+// A song and its form, from the start of a buffer that is long enough.
+pub fn put_sheet(buf: &mut [u8], seed: u64, s: Score, scale: Scale, f: Form) -> usize
+    requires { ⌜ Writable s ⌝ }
     requires { ⌜ (scale .n ≤ 6) × (f .bars ≤ 64) ⌝ }
     requires { ⌜ sheetSize s scale f ≤ length (now buf) ⌝ }
     ensures { λ r. ⌜ Wrote (now (buf .entry)) (now (buf .exit)) 0 r (sheetSize s scale f) (sheetBytes seed s scale f) ⌝ }
@@ -219,7 +220,7 @@ fn put_sheet(buf: &mut [u8], seed: u64, s: Score, scale: Scale, f: Form) -> usiz
 
 // The sheet of a song and its form, if the buffer is as long as this very sheet.
 fn sheet_into(seed: u64, s: Score, scale: Scale, f: Form, buf: &mut [u8]) -> Written
-    requires { ⌜ EventsPromise s ⌝ }
+    requires { ⌜ Writable s ⌝ }
     requires { ⌜ Chorded s ⌝ }
     requires { ⌜ (scale .n ≤ 6) × (f .bars ≤ 64) ⌝ }
     ensures { λ r. ⌜ r ≡ writtenOf (length (now (buf .entry))) (Writes (sheetBytes seed s scale f)) ⌝ }

@@ -42,7 +42,7 @@ put-note-requires c κs =
     let r = a .args .run in
     let p = a .pre .0 .lanes .keys in
     let w = l .inv .3 (a .args .s .«keys_count») (a .pre .1 .0 .1) (omega (arith, p .few, p .size)) in
-    (a .pre .0 .plain .keys (l .i) (omega arith), omega (arith, w .next, times-fits 14 (r .from) (l .i) (l .inv .0) (r .to) (omega arith)))
+    (a .pre .0 .numbers .keys (l .i) (omega arith), omega (arith, w .next, times-fits 14 (r .from) (l .i) (l .inv .0) (r .to) (omega arith)))
 
 add-i : tie.Need-add-i Inv-loop μ-loop
 add-i c = omega (arith, c .before .before .before .before .before .before .before .before .before .before .pre .0 .lanes .keys .few)

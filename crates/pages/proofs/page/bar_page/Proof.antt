@@ -29,7 +29,7 @@ page-of-requires c κs =
     let d = c .before .before .before .before .before .before .before in
     let e = c .before .before .before .before .before .compose .ensures in
     let p = done-promise (d .args .style) (d .args .seed) (ap (λ (x : Composed). x .outcome) (sym e) ∙ c .before .before .before .enum-told .given .1) in
-    rw e (events-promise p, p .chords)
+    rw e (events-promise p, p .range .chord-size)
 
 returns : tie.Need-returns
 unfolding pageAsked

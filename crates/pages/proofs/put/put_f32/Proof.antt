@@ -1,4 +1,4 @@
--- A plain number is no NaN, and the number that is written is its bits. Assumes nothing.
+-- A finite number is no NaN, and the number that is written is its bits. Assumes nothing.
 use Rattle.laws.proofs.Bounds.{no-nan}
 use borrow.Author.Needs.{needs}
 use Rattle.pages.proofs.put.put_f32.Statement.{statement}

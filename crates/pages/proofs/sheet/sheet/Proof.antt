@@ -5,6 +5,7 @@ use Rattle.composer.specs.declared.refusal.Outcome.{Outcome}
 use Rattle.composer.proofs.ComposeLaws.{done-promise, events-promise}
 use Rattle.composer.proofs.form.Arranged.{arranged-promise}
 use Rattle.pages.specs.Sheet.{sheetAsked}
+use Rattle.pages.proofs.WritableLaws.{writable}
 use borrow.Author.Needs.{needs}
 use Rattle.pages.proofs.sheet.sheet.Statement.{statement}
 use Rattle.pages.proofs.sheet.sheet.Tie as tie
@@ -27,7 +28,7 @@ sheet-into-requires c κs =
     let a = p .before .before .args in
     let done : composeOf (a .style) (a .seed) .outcome ≡ Outcome.Done = rw (p .compose .ensures) at (c .before .before .before .before .enum-told .given .1) in
     let promise = done-promise (a .style) (a .seed) done in
-    rw (p .compose .ensures, c .before .arrange .ensures) (events-promise promise, (promise .chords, (promise .scale-most, arranged-promise (a .seed) .most)))
+    rw (p .compose .ensures, c .before .arrange .ensures) (writable (composeOf (a .style) (a .seed) .score) (events-promise promise), (promise .range .chord-size, (promise .scale-most, arranged-promise (a .seed) .most)))
 
 returns : tie.Need-returns
 unfolding sheetAsked
