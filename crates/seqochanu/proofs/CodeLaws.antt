@@ -1,14 +1,25 @@
--- What is written is no longer than what was asked. Assumes nothing.
-use Prim.Native.Nat.{ℕ, _≤_}
+-- What is written is no longer than what was asked, and so no longer than a sheet or a page can be. Assumes nothing.
+use Prim.Native.Nat.{ℕ, _^_, _≤_, _<_}
 use native.Mathlib.Omega.{arith}
 use lib.Dec.{ltb}
 use lib.ListN.{length}
 use Rattle.composer.specs.declared.refusal.Refusal.{Refusal}
 use Rattle.laws.proofs.Bools.{either}
 use Rattle.pages.specs.Answer.{Asked, Writes, Declines, bytesOf, writtenOf}
+use Rattle.pages.specs.Page.{pageAsked}
+use Rattle.pages.specs.Sheet.{sheetAsked}
 use Rattle.pages.specs.declared.answer.Written.{Written}
+use Rattle.pages.proofs.PageLaws.{page-most}
+use Rattle.pages.proofs.SheetLaws.{sheet-most}
 use Rattle.seqochanu.specs.Code.{countOf}
 
-pub count-most : (room : ℕ) (a : Asked) → countOf (writtenOf room a) ≤ length (bytesOf a)
+count-most : (room : ℕ) (a : Asked) → countOf (writtenOf room a) ≤ length (bytesOf a)
 count-most room (Writes bytes) = either (λ (w : Written). countOf w ≤ length bytes) (ltb room (length bytes)) (Written.Refused Refusal.ShortBuffer) (Written.Bytes (length bytes)) (omega arith) (omega arith)
 count-most room (Declines r) = omega arith
+
+-- whatever is asked, its length is a number of C's
+pub sheet-count : (room style seed : ℕ) → countOf (writtenOf room (sheetAsked style seed)) < 2 ^ 63
+sheet-count room style seed = omega (arith, count-most room (sheetAsked style seed), sheet-most style seed)
+
+pub page-count : (room style seed b : ℕ) → countOf (writtenOf room (pageAsked style seed b)) < 2 ^ 63
+page-count room style seed b = omega (arith, count-most room (pageAsked style seed b), page-most style seed b)

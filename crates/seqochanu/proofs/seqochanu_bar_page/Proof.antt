@@ -1,13 +1,9 @@
 -- What is written is no longer than a page's most, so the code fits; the rest is the page's. Assumes nothing.
 use mathlib.Core.Path.{ap, _∙_}
-use native.Mathlib.Omega.{arith}
-use lib.ListN.{length}
 use mir.Syntax.{w64}
 use mir.ValLaws.{toZ-ofZ}
-use Rattle.pages.specs.Page.{pageAsked}
-use Rattle.pages.proofs.PageLaws.{page-most}
 use Rattle.seqochanu.specs.Code.{codeOf}
-use Rattle.seqochanu.proofs.CodeLaws.{count-most}
+use Rattle.seqochanu.proofs.CodeLaws.{page-count}
 use borrow.Author.Needs.{needs}
 use Rattle.seqochanu.proofs.seqochanu_bar_page.Statement.{statement}
 use Rattle.seqochanu.proofs.seqochanu_bar_page.Tie as tie
@@ -16,9 +12,7 @@ bar-page-requires : tie.Need-bar-page-requires
 bar-page-requires c κs = search needs
 
 code-requires : tie.Need-code-requires
-code-requires c κs =
-    let a = c .before .before .before .before .before .args in
-    rw (c .before .before .bar-page .ensures .0) (omega (arith, count-most (length (a .buf .now)) (pageAsked (a .style) (a .seed) (a .bar)), page-most (a .style) (a .seed) (a .bar)))
+code-requires c κs = rw (c .before .before .bar-page .ensures .0) (page-count _ _ _ _)
 
 same-length : tie.Need-same-length
 same-length c = search needs

@@ -1,13 +1,9 @@
 -- What is written is no longer than a sheet's most, so the code fits; the rest is the sheet's. Assumes nothing.
 use mathlib.Core.Path.{ap, _∙_}
-use native.Mathlib.Omega.{arith}
-use lib.ListN.{length}
 use mir.Syntax.{w64}
 use mir.ValLaws.{toZ-ofZ}
-use Rattle.pages.specs.Sheet.{sheetAsked}
-use Rattle.pages.proofs.SheetLaws.{sheet-most}
 use Rattle.seqochanu.specs.Code.{codeOf}
-use Rattle.seqochanu.proofs.CodeLaws.{count-most}
+use Rattle.seqochanu.proofs.CodeLaws.{sheet-count}
 use borrow.Author.Needs.{needs}
 use Rattle.seqochanu.proofs.seqochanu_sheet.Statement.{statement}
 use Rattle.seqochanu.proofs.seqochanu_sheet.Tie as tie
@@ -16,9 +12,7 @@ sheet-requires : tie.Need-sheet-requires
 sheet-requires c κs = search needs
 
 code-requires : tie.Need-code-requires
-code-requires c κs =
-    let a = c .before .before .before .before .before .args in
-    rw (c .before .before .sheet .ensures .0) (omega (arith, count-most (length (a .buf .now)) (sheetAsked (a .style) (a .seed)), sheet-most (a .style) (a .seed)))
+code-requires c κs = rw (c .before .before .sheet .ensures .0) (sheet-count _ _ _)
 
 same-length : tie.Need-same-length
 same-length c = search needs
