@@ -4,6 +4,7 @@ pub mod Beatless
 pub mod BodyLaws
 pub mod DecisionsLaws
 pub mod EndsLaws
+pub mod OverLaws
 pub mod PromiseLaws
 pub mod SongLaws
 pub mod SpansLaws

@@ -42,7 +42,7 @@ pub record BarsPromise (s : Score) : Type 0 where
   pub hits : EachAtMost hitBar 13 (take (s .«hit_count») (s .hits))
   pub bass : EachAtMost noteBar 13 (take (s .«bass_count») (s .bass))
 
--- what writing a score's events asks: each lane in order, every float a plain number
+-- what writing or summing a score's events draws on: each lane in order, every float a plain number
 pub record EventsPromise (s : Score) : Type 0 where
   pub lanes : LanesPromise s
   pub plain : PlainPromise s

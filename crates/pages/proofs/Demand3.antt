@@ -3,7 +3,7 @@
 use mathlib.Core.Path.{_≡_, refl, ap, _∙_, subst}
 use mathlib.Core.Bool.{Bool, true, false}
 use mathlib.Core.List.{List, [], _++_}
-use Prim.Native.Nat.{ℕ, _+_, _*_, _≤_, _<_}
+use Prim.Native.Nat.{ℕ, _+_, _*_, _%_, _≤_, _<_}
 use native.Mathlib.Omega.{arith}
 use borrow.Author.Tests.{lt-ltb, ltb-true}
 use lib.Dec.{ltb}
@@ -33,6 +33,7 @@ use Rattle.pages.specs.Lane.{eventsOf, drawnFor}
 use Rattle.pages.specs.Page.{loopBarOf, shown, pageBytes, pageAsked}
 use Rattle.pages.specs.declared.lane.Lane.{Lane}
 use Rattle.pages.proofs.AnswerLaws.{room-written, room-buffer}
+use Rattle.pages.proofs.LaneLaws.{shown-size}
 use Rattle.pages.proofs.PageLaws.{composed-is, page-found}
 use Rattle.pages.proofs.ReadLaws.{chord-body, lead-body, hits-body, bass-body}
 use Rattle.pages.proofs.ScoreLaws.{chord-some, hits-some, bass-some, lead-shown, bass-shown}
@@ -44,6 +45,12 @@ strikes-by layer a p e h = rw e at h
 shown-whole : (on : Bool) (xs : List ℕ) → ltb 0 (length (shown on xs)) ≡ true → shown on xs ≡ xs
 shown-whole true xs h = refl
 shown-whole false xs h = absurd (omega (arith, ltb-true 0 0 h))
+
+-- what a silent layer would show is nothing
+shown-some : (on : Bool) (es : List (List ℕ)) → ltb 0 (length (joined (shown on es))) ≡ true → on ≡ true
+unfolding joined
+shown-some true es h = refl
+shown-some false es h = absurd (omega (arith, ltb-true 0 0 h))
 
 -- ---- the page of a song bar
 module _ (style : Style) (seed b : ℕ) (p : Plays) (plays : playsAt (arrangeOf seed) b ≡ Gives p) where
@@ -96,15 +103,23 @@ module _ (style : Style) (seed b : ℕ) (p : Plays) (plays : playsAt (arrangeOf 
       body ∙ shown-whole (p .pad) notes (rw body at h) ∙ List·getD-map notesIn (s .«bar_chords») bar pastChord
 
   -- its notes
+  lead-read : bodyOf 0x05 page ≡ joined (shown (p .keys) (drawnFor bar (eventsOf s Lane.Lead)))
+  lead-read = rw page-is (lead-body s p bar)
+
+  bass-read : bodyOf 0x08 page ≡ joined (shown (p .bass) (drawnFor bar (eventsOf s Lane.Bass)))
+  bass-read = rw page-is (bass-body s p bar)
+
+  notes-whole : (length (bodyOf 0x05 page) % 14 ≡ 0) × (length (bodyOf 0x08 page) % 14 ≡ 0)
+  notes-whole = (rw lead-read (omega (arith, shown-size s Lane.Lead (p .keys) bar)), rw bass-read (omega (arith, shown-size s Lane.Bass (p .bass) bar)))
+
+  bass-plays : has 0x08 page ≡ true → p .bass ≡ true
+  bass-plays h = shown-some (p .bass) (drawnFor bar (eventsOf s Lane.Bass)) (rw bass-read at h)
+
   lead-sings : (midi : ℕ) → IsNote 0x05 page midi → Sings style scale midi
-  lead-sings midi n =
-      let body : bodyOf 0x05 page ≡ joined (shown (p .keys) (drawnFor bar (eventsOf s Lane.Lead))) = rw page-is (lead-body s p bar) in
-      subst (Sings style scale) (n .2) (rw body (lead-shown style s scale promise bar bar-lt (p .keys) (n .0) (rw body at (n .1))))
+  lead-sings midi n = subst (Sings style scale) (n .2) (rw lead-read (lead-shown style s scale promise bar bar-lt (p .keys) (n .0) (rw lead-read at (n .1))))
 
   bass-sounds : (midi : ℕ) → IsNote 0x08 page midi → SoundsIn (s .«bar_chords») bar midi
-  bass-sounds midi n =
-      let body : bodyOf 0x08 page ≡ joined (shown (p .bass) (drawnFor bar (eventsOf s Lane.Bass))) = rw page-is (bass-body s p bar) in
-      subst (SoundsIn (s .«bar_chords») bar) (n .2) (rw body (bass-shown style s scale promise bar bar-lt (p .bass) (n .0) (rw body at (n .1))))
+  bass-sounds midi n = subst (SoundsIn (s .«bar_chords») bar) (n .2) (rw bass-read (bass-shown style s scale promise bar bar-lt (p .bass) (n .0) (rw bass-read at (n .1))))
 
 -- ---- all pages of a song
 module _ (style : Style) (seed : ℕ) where
@@ -126,14 +141,34 @@ module _ (style : Style) (seed : ℕ) where
       promise-more (f .phrases) (bodyStrikes f (λ p. p .pad)) (bodyStrikes f (λ p. p .drums)) (bodyStrikes f (λ p. p .bass)) (λ b. has 0x03 (bodyPage style seed b)) (λ b. has 0x07 (bodyPage style seed b))
       (λ b. has 0x08 (bodyPage style seed b)) (also (λ p. p .pad) 0x03 (chord-has style seed)) (also (λ p. p .drums) 0x07 (hits-has style seed)) (also (λ p. p .bass) 0x08 (bass-has style seed)) (form .body)
 
+  -- ---- chords
+  over-chord : (b : ℕ) → b < f .bars → has 0x08 (pageAt style seed b) ≡ true → has 0x03 (pageAt style seed b) ≡ true
+  over-chord b h e =
+      let k = form .found b h in
+      let bass : strikes (λ p. p .bass) (playsAt f b) ≡ true = rw (k .1) (bass-plays style seed b (k .0) (k .1) e) in
+      chord-has style seed b (k .0) (k .1) (strikes-by (λ p. p .pad) (playsAt f b) (k .0) (k .1) (form .«over-pad» b h bass))
+
+  -- the body starts on loop bar 0
+  eight-chords : (bar : ℕ) → bar < 8 → bodyOf 0x03 (bodyPage style seed bar) ≡ getD (composedOf style seed .score .«bar_chords») bar pastChord .notes
+  eight-chords bar h =
+      let b = introBarsOf f + bar in
+      let k = form .found b (omega (arith, form .«song-bars», form .phrases .0)) in
+      let at : loopBarOf f b ≡ bar = omega arith in
+      chord-read style seed b (k .0) (k .1) (body .chords bar (omega (arith, form .phrases .0)))
+      ∙ ap (λ (n : ℕ). getD (composedOf style seed .score .«bar_chords») n pastChord .notes) at
+
   pub demand-3 : Demand3 style seed
   demand-3 = record {
     written = λ b h. let k = form .found b h in page-written style seed b (k .0) (k .1);
+    phrases = form .phrases;
     body = body;
     entries = rw (composed-is style seed) (song-promise style seed .score .scale-least, song-promise style seed .score .scale-most, song-promise style seed .score .scale-size);
     chord-count = rw (composed-is style seed) (song-promise style seed .score .chord-count);
-    chord-size = rw (composed-is style seed) (song-promise style seed .score .range .chord-size);
+    chords = rw (composed-is style seed) (song-promise style seed .score .chords);
+    whole = λ b h. let k = form .found b h in notes-whole style seed b (k .0) (k .1);
     chord = rw (composed-is style seed) (λ b h. let k = form .found b h in chord-read style seed b (k .0) (k .1));
+    over-chord = over-chord;
+    eight = rw (composed-is style seed) eight-chords;
     lead = rw (composed-is style seed) (λ b h. let k = form .found b h in lead-sings style seed b (k .0) (k .1));
     bass = rw (composed-is style seed) (λ b h. let k = form .found b h in bass-sounds style seed b (k .0) (k .1));
   }

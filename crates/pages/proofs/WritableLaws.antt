@@ -1,11 +1,12 @@
--- A score whose lanes are in order and whose floats are plain numbers can be written. Assumes nothing.
+-- A score whose lanes are in order and whose floats are plain numbers can be written, as a sheet
+-- and page by page. Assumes nothing.
 use Rattle.laws.proofs.Bounds.{nonneg-finite}
 use Rattle.composer.specs.Plain.{PlainNote, PlainHit, PlainPromise}
 use Rattle.composer.specs.Promise.{LanesPromise, EventsPromise}
 use Rattle.composer.specs.declared.note.Hit.{Hit}
 use Rattle.composer.specs.declared.note.Note.{Note}
 use Rattle.composer.specs.declared.score.Score.{Score}
-use Rattle.pages.specs.Writable.{SizedLanes, FiniteNote, FiniteHit, FiniteEvents, Writable}
+use Rattle.pages.specs.Writable.{SizedLanes, FiniteNote, FiniteHit, FiniteEvents, Writable, Paged}
 
 finite-note : (x : Note) → PlainNote x → FiniteNote x
 finite-note x p = record { at = nonneg-finite (x .at) (p .at .ok); vel = nonneg-finite (x .vel) (p .vel .ok); dur = nonneg-finite (x .dur) (p .dur .ok) }
@@ -32,3 +33,6 @@ sized s p = record {
 
 pub writable : (s : Score) → EventsPromise s → Writable s
 writable s p = record { lanes = sized s (p .lanes); numbers = finite-events s (p .plain) }
+
+pub paged : (s : Score) → EventsPromise s → Paged s
+paged s p = record { lanes = p .lanes; writable = writable s p }

@@ -1,4 +1,5 @@
--- Which scores can be written: counts within the capacities, every number finite. Definitions only.
+-- Which scores can be written: counts within the capacities, every number finite; and for a page, lanes in the order of their
+-- bars. Definitions only.
 use mathlib.Core.Path.{_≡_}
 use mathlib.Core.List.{List}
 use Prim.Native.Nat.{ℕ, _≤_, _<_}
@@ -6,6 +7,7 @@ use lib.Dec.{T}
 use lib.Ieee.Scale.{finite}
 use lib.ListN.{length, getD}
 use Rattle.composer.specs.Note.{pastNote, pastHit}
+use Rattle.composer.specs.Promise.{LanesPromise}
 use Rattle.composer.specs.declared.note.Hit.{Hit}
 use Rattle.composer.specs.declared.note.Note.{Note}
 use Rattle.composer.specs.declared.score.Score.{Score}
@@ -42,3 +44,8 @@ pub record FiniteEvents (s : Score) : Type 0 where
 pub record Writable (s : Score) : Type 0 where
   pub lanes : SizedLanes s
   pub numbers : FiniteEvents s
+
+-- a writer of a page finds a bar's events by the order of each lane
+pub record Paged (s : Score) : Type 0 where
+  pub lanes : LanesPromise s
+  pub writable : Writable s

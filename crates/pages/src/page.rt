@@ -3,10 +3,11 @@ ghost use mathlib.Core.Path.{_≡_};
 ghost use Prim.Native.Nat.{_+_, _<_, _≤_};
 ghost use lib.ListN.{length};
 ghost use Rattle.laws.specs.Writes.{Wrote};
-ghost use Rattle.composer.specs.Promise.{LanesPromise, EventsPromise};
+ghost use Rattle.composer.specs.Promise.{LanesPromise};
 ghost use Rattle.pages.specs.Answer.{Writes, writtenOf, bufferOf};
 ghost use Rattle.pages.specs.Lane.{runSize, Held};
 ghost use Rattle.pages.specs.Page.{Chorded, loopBarOf, chordSize, chordField, runsIn, runsSize, pageSize, pageBytes, pageOf, pageAsked};
+ghost use Rattle.pages.specs.Writable.{Paged};
 use crate::answer::Written;
 use crate::lane::Lane;
 use crate::lane::Run;
@@ -112,7 +113,7 @@ fn page_size(pad: bool, runs: Runs) -> usize
 
 // The page of one loop bar by the runs of its events.
 fn put_page(buf: &mut [u8], s: Score, p: Plays, runs: Runs, bar: u8) -> usize
-    requires { ⌜ EventsPromise s ⌝ }
+    requires { ⌜ Paged s ⌝ }
     requires { ⌜ Chorded s ⌝ }
     requires { ⌜ bar < 8 ⌝ }
     requires { ⌜ runs ≡ runsIn s p bar ⌝ }
@@ -132,7 +133,7 @@ fn put_page(buf: &mut [u8], s: Score, p: Plays, runs: Runs, bar: u8) -> usize
 
 // The page of one loop bar and the layers that play, if the buffer is as long as this very page.
 fn page_into(s: Score, p: Plays, bar: u8, buf: &mut [u8]) -> Written
-    requires { ⌜ EventsPromise s ⌝ }
+    requires { ⌜ Paged s ⌝ }
     requires { ⌜ Chorded s ⌝ }
     requires { ⌜ bar < 8 ⌝ }
     ensures { λ r. ⌜ r ≡ writtenOf (length (now (buf .entry))) (Writes (pageBytes s p bar)) ⌝ }
@@ -149,7 +150,7 @@ fn page_into(s: Score, p: Plays, bar: u8, buf: &mut [u8]) -> Written
 
 // The page of a song bar; a look-up of its plays that is refused is passed on.
 fn page_of(s: Score, f: Form, bar: u64, buf: &mut [u8]) -> Written
-    requires { ⌜ EventsPromise s ⌝ }
+    requires { ⌜ Paged s ⌝ }
     requires { ⌜ Chorded s ⌝ }
     ensures { λ r. ⌜ r ≡ writtenOf (length (now (buf .entry))) (pageOf s f bar) ⌝ }
     ensures { λ r. ⌜ now (buf .exit) ≡ bufferOf (now (buf .entry)) (pageOf s f bar) ⌝ }

@@ -1,4 +1,5 @@
-// Writers at a place in a buffer: each answers the place after what it wrote. Numbers are big-endian.
+// Writers at a place in a buffer: each answers the place after what it wrote. Numbers are big-endian. They serve the crates
+// above as well, and ask for their room.
 ghost use mathlib.Core.List.{[], _∷_};
 ghost use mathlib.Core.Path.{_≡_};
 ghost use Prim.Native.Nat.{_+_, _*_, _/_, _%_, _<_, _≤_};
@@ -8,6 +9,7 @@ ghost use lib.Ieee.Scale.{finite};
 ghost use Rattle.laws.specs.Writes.{Wrote};
 ghost use Rattle.pages.specs.Bytes.{be16, be32, be64, f32Bytes, head};
 
+// One byte.
 pub fn put_u8(buf: &mut [u8], at: usize, x: u8) -> usize
     requires { ⌜ at + 1 ≤ length (now buf) ⌝ }
     ensures { λ r. ⌜ Wrote (now (buf .entry)) (now (buf .exit)) at r 1 (x ∷ []) ⌝ }
@@ -16,6 +18,7 @@ pub fn put_u8(buf: &mut [u8], at: usize, x: u8) -> usize
     at + 1
 }
 
+// A number of two bytes.
 pub fn put_u16(buf: &mut [u8], at: usize, x: u16) -> usize
     requires { ⌜ at + 2 ≤ length (now buf) ⌝ }
     ensures { λ r. ⌜ Wrote (now (buf .entry)) (now (buf .exit)) at r 2 (be16 x) ⌝ }
@@ -31,6 +34,7 @@ fn turned(x: u32) -> u32
     ((x % 256 * 256 + x / 256 % 256) * 256 + x / 65536 % 256) * 256 + x / 16777216
 }
 
+// A number of four bytes.
 pub fn put_u32(buf: &mut [u8], at: usize, x: u32) -> usize
     requires { ⌜ at + 4 ≤ length (now buf) ⌝ }
     ensures { λ r. ⌜ Wrote (now (buf .entry)) (now (buf .exit)) at r 4 (be32 x) ⌝ }
@@ -42,6 +46,7 @@ pub fn put_u32(buf: &mut [u8], at: usize, x: u32) -> usize
     put_u8(buf, c, (y / 256 / 256 / 256) as u8)
 }
 
+// A number of eight bytes.
 pub fn put_u64(buf: &mut [u8], at: usize, x: u64) -> usize
     requires { ⌜ at + 8 ≤ length (now buf) ⌝ }
     ensures { λ r. ⌜ Wrote (now (buf .entry)) (now (buf .exit)) at r 8 (be64 x) ⌝ }

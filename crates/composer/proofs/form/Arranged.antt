@@ -13,7 +13,7 @@ use Rattle.composer.specs.Form.{introBarsOf}
 use Rattle.composer.specs.Form.Plays.{silent}
 use Rattle.composer.specs.Form.Body.{isBreak, wholeBreak, cutAt, cutHeard, bodyBarOf}
 use Rattle.composer.specs.Form.Song.{introOf, outroOf, introLength, songLength, songBarOf, formOf, decisionsOf, arrangeOf}
-use Rattle.composer.specs.Form.Promise.{BodyPromise, playsAt, bodyStrikes, FormPromise}
+use Rattle.composer.specs.Form.Promise.{BodyPromise, playsAt, strikes, bodyStrikes, FormPromise}
 use Rattle.composer.specs.declared.form.Form.{Form}
 use Rattle.composer.specs.declared.form.plays.Plays.{Plays}
 use Rattle.composer.specs.declared.form.decisions.Decisions.{Decisions}
@@ -21,8 +21,9 @@ use Rattle.composer.proofs.form.AskLaws.{plays-found}
 use Rattle.composer.proofs.form.BodyLaws.{body-promise}
 use Rattle.composer.proofs.form.DecisionsLaws.{decide-counter}
 use Rattle.composer.proofs.form.EndsLaws.{end-bars-is, outro-length-is}
+use Rattle.composer.proofs.form.OverLaws.{over-pad, song-over}
 use Rattle.composer.proofs.form.PromiseLaws.{promise-more}
-use Rattle.composer.proofs.form.SongLaws.{drawn-phrases-least, drawn-phrases-most, drawn-cuts-short, body-bar, arranged-sound, arranged-bars}
+use Rattle.composer.proofs.form.SongLaws.{drawn-phrases-least, drawn-phrases-most, drawn-cuts-short, form-bar, body-bar, arranged-sound, arranged-bars}
 
 -- ---- a cut never stands just before a whole break
 pub no-cut-before-break : (d : Decisions) (p : ℕ) → wholeBreak d ≡ true → p + 1 ≡ d .phrases / 2 → cutHeard d p ≡ false
@@ -58,6 +59,10 @@ module _ (seed : ℕ) where
   strikes-at : (layer : Plays → Bool) (b : ℕ) → b < 8 * d .phrases → layer (bodyBarOf d b) ≡ true → bodyStrikes f layer b ≡ true
   strikes-at layer b h e = rw (body-at b h) e
 
+  bass-over : (b : ℕ) → b < f .bars → strikes (λ p. p .bass) (playsAt f b) ≡ true → strikes (λ p. p .pad) (playsAt f b) ≡ true
+  unfolding formOf
+  bass-over b h = rw (found-at b h) (over-pad (getD (f .plays) b silent) (rw (form-bar d b h) (song-over seed (introLength d) b)))
+
   body : BodyPromise (d .phrases) (bodyStrikes f (λ p. p .pad)) (bodyStrikes f (λ p. p .drums)) (bodyStrikes f (λ p. p .bass))
   body =
       promise-more (d .phrases) (λ b. bodyBarOf d b .pad) (λ b. bodyBarOf d b .drums) (λ b. bodyBarOf d b .bass) (bodyStrikes f (λ p. p .pad)) (bodyStrikes f (λ p. p .drums))
@@ -80,6 +85,7 @@ module _ (seed : ℕ) where
         size = length-pad silent 64 (listTo (songBarOf d (introLength d)) (songLength d)) (omega (arith, length-list-to (songBarOf d (introLength d)) (songLength d), arranged-bars seed));
         rest = λ b h. pad-past silent 64 (listTo (songBarOf d (introLength d)) (songLength d)) b (omega (arith, length-list-to (songBarOf d (introLength d)) (songLength d), h));
         found = λ b h. (getD (f .plays) b silent, found-at b h);
+        «over-pad» = bass-over;
         body = body;
         «before-break» = λ whole. strikes-at (λ p. p .drums) (8 * (P / 2) - 1) (omega arith) (bar-before-break d (8 * (P / 2) - 1) whole (omega arith));
         dip = dip-dropped d;

@@ -43,7 +43,7 @@ module _ (d : Decisions) where
   unfolding formOf soundOf
   form-sound h = rw (eq-eqb (songLength d) (songLength d) refl, le-leb (songLength d) 64 (song-length-le h))
 
-  form-bar : (k : ℕ) → k < songLength d → getD (formOf d .plays) k silent ≡ songBarOf d (introLength d) k
+  pub form-bar : (k : ℕ) → k < songLength d → getD (formOf d .plays) k silent ≡ songBarOf d (introLength d) k
   unfolding formOf
   form-bar k h =
       let song = listTo (songBarOf d (introLength d)) (songLength d) in

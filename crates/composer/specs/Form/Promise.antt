@@ -56,6 +56,8 @@ pub record FormPromise (seed : ℕ) (f : Form) : Type 0 where
   pub rest : (b : ℕ) → f .bars ≤ b → getD (f .plays) b silent ≡ silent
   -- no bar of the song is refused
   pub found : (b : ℕ) → b < f .bars → (p : Plays) × (playsAt f b ≡ Gives p)
+  -- wherever the bass plays, the pad has its chord
+  pub «over-pad» : (b : ℕ) → b < f .bars → strikes (λ p. p .bass) (playsAt f b) ≡ true → strikes (λ p. p .pad) (playsAt f b) ≡ true
   pub body : BodyPromise (f .phrases) (bodyStrikes f (λ p. p .pad)) (bodyStrikes f (λ p. p .drums)) (bodyStrikes f (λ p. p .bass))
   -- a whole break is not preceded by a cut: the bar before it has drums
   pub «before-break» : wholeBreak (decisionsOf seed) ≡ true → bodyStrikes f (λ p. p .drums) (8 * (f .phrases / 2) - 1) ≡ true

@@ -7,6 +7,7 @@ use Rattle.composer.specs.declared.refusal.Outcome.{Outcome}
 use Rattle.composer.proofs.ComposeLaws.{done-promise, events-promise}
 use Rattle.pages.specs.Answer.{askedBy, writtenOf, bufferOf}
 use Rattle.pages.specs.Page.{pageOf, pageAsked}
+use Rattle.pages.proofs.WritableLaws.{paged}
 use lib.ListN.{length}
 use borrow.Author.Needs.{needs}
 use Rattle.pages.proofs.page.bar_page.Statement.{statement}
@@ -29,7 +30,7 @@ page-of-requires c κs =
     let d = c .before .before .before .before .before .before .before in
     let e = c .before .before .before .before .before .compose .ensures in
     let p = done-promise (d .args .style) (d .args .seed) (ap (λ (x : Composed). x .outcome) (sym e) ∙ c .before .before .before .enum-told .given .1) in
-    rw e (events-promise p, p .range .chord-size)
+    rw e (paged (composeOf (d .args .style) (d .args .seed) .score) (events-promise p), p .range .chord-size)
 
 returns : tie.Need-returns
 unfolding pageAsked

@@ -7,7 +7,6 @@ use Rattle.pages.specs.Page.{pageBytes}
 use Rattle.pages.specs.declared.lane.Lane.{Lane}
 use Rattle.pages.specs.declared.page.Runs.{Runs}
 use Rattle.pages.proofs.PageLaws.{run-fits, run-wrote}
-use Rattle.pages.proofs.WritableLaws.{writable}
 use borrow.Author.Needs.{needs}
 use Rattle.pages.proofs.page.put_page.Statement.{statement}
 use Rattle.pages.proofs.page.put_page.Tie as tie
@@ -34,7 +33,7 @@ put-run-requires c κs =
     let a = d .args in
     let w = c1 .put-chord .ensures in
     let f = run-fits (a .s) (d .pre .0 .lanes) Lane.Lead (a .p .keys) (a .bar) (a .runs .lead) (lead-is d) in
-    (writable (a .s) (d .pre .0), (f .0, omega (arith, w .next, wrote-length w, f .1, d .pre .1 .1 .1 .1)))
+    (d .pre .0 .writable, (f .0, omega (arith, w .next, wrote-length w, f .1, d .pre .1 .1 .1 .1)))
 
 put-run-requires-2 : tie.Need-put-run-requires-2
 put-run-requires-2 c κs =
@@ -44,7 +43,7 @@ put-run-requires-2 c κs =
     let a = d .args in
     let w = wrote-then (c1 .put-chord .ensures) (run-wrote (a .s) (d .pre .0 .lanes) Lane.Lead (a .p .keys) (a .bar) (a .runs .lead) (lead-is d) (c2 .put-run .ensures)) in
     let f = run-fits (a .s) (d .pre .0 .lanes) Lane.Keys (a .p .keys) (a .bar) (a .runs .keys) (keys-is d) in
-    (writable (a .s) (d .pre .0), (f .0, omega (arith, w .next, wrote-length w, f .1, d .pre .1 .1 .1 .1)))
+    (d .pre .0 .writable, (f .0, omega (arith, w .next, wrote-length w, f .1, d .pre .1 .1 .1 .1)))
 
 put-run-requires-3 : tie.Need-put-run-requires-3
 put-run-requires-3 c κs =
@@ -55,7 +54,7 @@ put-run-requires-3 c κs =
     let a = d .args in
     let w = wrote-then (c1 .put-chord .ensures) (wrote-then (run-wrote (a .s) (d .pre .0 .lanes) Lane.Lead (a .p .keys) (a .bar) (a .runs .lead) (lead-is d) (c2 .put-run .ensures)) (run-wrote (a .s) (d .pre .0 .lanes) Lane.Keys (a .p .keys) (a .bar) (a .runs .keys) (keys-is d) (c3 .put-run2 .ensures))) in
     let f = run-fits (a .s) (d .pre .0 .lanes) Lane.Hits (a .p .drums) (a .bar) (a .runs .hits) (hits-is d) in
-    (writable (a .s) (d .pre .0), (f .0, omega (arith, w .next, wrote-length w, f .1, d .pre .1 .1 .1 .1)))
+    (d .pre .0 .writable, (f .0, omega (arith, w .next, wrote-length w, f .1, d .pre .1 .1 .1 .1)))
 
 put-run-requires-4 : tie.Need-put-run-requires-4
 put-run-requires-4 c κs =
@@ -67,7 +66,7 @@ put-run-requires-4 c κs =
     let a = d .args in
     let w = wrote-then (c1 .put-chord .ensures) (wrote-then (run-wrote (a .s) (d .pre .0 .lanes) Lane.Lead (a .p .keys) (a .bar) (a .runs .lead) (lead-is d) (c2 .put-run .ensures)) (wrote-then (run-wrote (a .s) (d .pre .0 .lanes) Lane.Keys (a .p .keys) (a .bar) (a .runs .keys) (keys-is d) (c3 .put-run2 .ensures)) (run-wrote (a .s) (d .pre .0 .lanes) Lane.Hits (a .p .drums) (a .bar) (a .runs .hits) (hits-is d) (c4 .put-run3 .ensures)))) in
     let f = run-fits (a .s) (d .pre .0 .lanes) Lane.Bass (a .p .bass) (a .bar) (a .runs .bass) (bass-is d) in
-    (writable (a .s) (d .pre .0), (f .0, omega (arith, w .next, wrote-length w, f .1, d .pre .1 .1 .1 .1)))
+    (d .pre .0 .writable, (f .0, omega (arith, w .next, wrote-length w, f .1, d .pre .1 .1 .1 .1)))
 
 same-length : tie.Need-same-length
 same-length c = search needs
