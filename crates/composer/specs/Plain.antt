@@ -1,5 +1,5 @@
--- Every f32 of a score is a plain number: one that f32 holds, finite, no negative zero, and within bounds that suit what it
--- says; and every spare byte is zero. Definitions only.
+-- Every f32 of a score is a plain number: one that f32 holds, finite, no negative zero, and within bounds that suit
+-- what it says; and every spare byte is zero. Definitions only.
 use mathlib.Core.Path.{_≡_}
 use Prim.Native.Nat.{ℕ, _<_}
 use lib.Dec.{T}

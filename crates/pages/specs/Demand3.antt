@@ -59,22 +59,22 @@ bodyPage style seed b = pageAt style seed (introBarsOf (arrangeOf seed) + b)
 
 -- what a lead note and a bass note may be is the composer's `Sings` and `SoundsIn`
 pub record Demand3 (style : Style) (seed : ℕ) : Type 0 where
-  -- for every song bar, intro and outro included, bar page writes this page into a buffer long enough: by the contract of
-  -- `bar_page`, its answer is this `writtenOf` and the buffer afterwards this `bufferOf`
+  -- for every song bar, intro and outro included, bar page writes this page into a buffer long enough: by the
+  -- contract of `bar_page`, its answer is this `writtenOf` and the buffer afterwards this `bufferOf`
   pub written : (b : ℕ) → b < arrangeOf seed .bars → (buf : List ℕ) → length (pageAt style seed b) ≤ length buf
       → (writtenAnswered (writtenOf (length buf) (pageAsked (styleNumberOf style) seed b)) ≡ Gives (length (pageAt style seed b)))
       × (bufferOf buf (pageAsked (styleNumberOf style) seed b) ≡ pageAt style seed b ++ drop (length (pageAt style seed b)) buf)
   -- which pages of the body have chord, hits and bass; P is the number of phrases in the seed's form
   pub phrases : (4 ≤ arrangeOf seed .phrases) × (arrangeOf seed .phrases ≤ 6)
   pub body : BodyPromise (arrangeOf seed .phrases) (λ b. has 0x03 (bodyPage style seed b)) (λ b. has 0x07 (bodyPage style seed b)) (λ b. has 0x08 (bodyPage style seed b))
-  -- the melody scale has 5 or 6 entries in an array of six, the song eight chords of root, third, fifth and seventh, and a page
-  -- whole notes: so nothing below is read past an end
+  -- the melody scale has 5 or 6 entries in an array of six, the song eight chords of root, third, fifth and seventh,
+  -- and a page whole notes: so nothing below is read past an end
   pub entries : (5 ≤ songOf style seed .scale .n) × (songOf style seed .scale .n ≤ 6) × (length (songOf style seed .scale .pcs) ≡ 6)
   pub chord-count : length (songOf style seed .score .«bar_chords») ≡ 8
   pub chords : (bar : ℕ) → bar < 8 → RootPosition (chordAt style seed bar)
   pub whole : (b : ℕ) → b < arrangeOf seed .bars → (length (bodyOf 0x05 (pageAt style seed b)) % 14 ≡ 0) × (length (bodyOf 0x08 (pageAt style seed b)) % 14 ≡ 0)
-  -- a page that has 0x03 has the notes of its loop bar's chord there; one that has bass has it; and the first eight pages of the
-  -- body have the eight chords: so a marker finds on pages what bass notes are compared with
+  -- a page that has 0x03 has the notes of its loop bar's chord there; one that has bass has it; and the first eight
+  -- pages of the body have the eight chords: so a marker finds on pages what bass notes are compared with
   pub chord : (b : ℕ) → b < arrangeOf seed .bars → has 0x03 (pageAt style seed b) ≡ true → bodyOf 0x03 (pageAt style seed b) ≡ chordAt style seed (loopBarOf (arrangeOf seed) b) .notes
   pub over-chord : (b : ℕ) → b < arrangeOf seed .bars → has 0x08 (pageAt style seed b) ≡ true → has 0x03 (pageAt style seed b) ≡ true
   pub eight : (bar : ℕ) → bar < 8 → bodyOf 0x03 (bodyPage style seed bar) ≡ chordAt style seed bar .notes

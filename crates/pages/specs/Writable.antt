@@ -1,5 +1,5 @@
--- Which scores can be written: counts within the capacities, every number finite; and for a page, lanes in the order of their
--- bars. Definitions only.
+-- Which scores can be written: counts within the capacities, every number finite; and for a page, lanes in the order
+-- of their bars. Definitions only.
 use mathlib.Core.Path.{_≡_}
 use mathlib.Core.List.{List}
 use Prim.Native.Nat.{ℕ, _≤_, _<_}

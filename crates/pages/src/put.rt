@@ -1,5 +1,5 @@
-// Writers at a place in a buffer: each answers the place after what it wrote. Numbers are big-endian. They serve the crates
-// above as well, and ask for their room.
+// Writers at a place in a buffer: each answers the place after what it wrote. Numbers are big-endian. They serve the
+// crates above as well, and ask for their room.
 ghost use mathlib.Core.List.{[], _∷_};
 ghost use mathlib.Core.Path.{_≡_};
 ghost use Prim.Native.Nat.{_+_, _*_, _/_, _%_, _<_, _≤_};

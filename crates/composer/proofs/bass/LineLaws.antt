@@ -1,5 +1,5 @@
--- A bar's notes: each is a note of that bar, on its root, its fifth or the note under the next root, from 30 to 42, and the
--- count grows by one with each. Assumes nothing.
+-- A bar's notes: each is a note of that bar, on its root, its fifth or the note under the next root, from 30 to 42,
+-- and the count grows by one with each. Assumes nothing.
 use mathlib.Core.Path.{_≡_, refl}
 use mathlib.Core.Bool.{Bool, true, false, cond, _&&_}
 use Prim.Native.Nat.{ℕ, zero, suc, _+_, _%_, _≤_, _<_}

@@ -1,5 +1,6 @@
 -- What every bass line keeps: at most 104 notes and zeroes behind them, the bars in order, none without a note and
--- none with more than 13, and in each bar its root, its fifth and the note under the next root alone, from 30 to 42. Assumes nothing.
+-- none with more than 13, and in each bar its root, its fifth and the note under the next root alone, from 30 to 42.
+-- Assumes nothing.
 use mathlib.Core.Path.{_≡_, refl}
 use mathlib.Core.List.{List}
 use Prim.Native.Nat.{ℕ, zero, suc, _+_, _-_, _*_, _%_, _≤_, _<_}

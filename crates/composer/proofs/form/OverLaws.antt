@@ -1,5 +1,5 @@
--- In every bar of a song the bass sounds over the pad's chord: so it is in each row of openings and closings, and in the body the
--- pad always plays. Assumes nothing.
+-- In every bar of a song the bass sounds over the pad's chord: so it is in each row of openings and closings, and in
+-- the body the pad always plays. Assumes nothing.
 use mathlib.Core.Path.{_≡_}
 use mathlib.Core.Bool.{Bool, true, not, cond}
 use Prim.Native.Nat.{ℕ, _-_, _*_}

@@ -1,5 +1,5 @@
--- Every note of the keys is plain, on its eighth, behind it by the lag and the roll, and as loud and as long as the style has it;
--- and it is from 48 to 73. Assumes nothing.
+-- Every note of the keys is plain, on its eighth, behind it by the lag and the roll, and as loud and as long as the
+-- style has it; and it is from 48 to 73. Assumes nothing.
 use mathlib.Core.Path.{refl}
 use mathlib.Core.Bool.{Bool, _&&_}
 use mathlib.Core.List.{List}

@@ -1,5 +1,5 @@
--- What a turn of each loop over the scale tells of the definitions, and that a walk keeps in the window; a class of the scale is
--- one of its entries. Assumes nothing.
+-- What a turn of each loop over the scale tells of the definitions, and that a walk keeps in the window; a class of
+-- the scale is one of its entries. Assumes nothing.
 use mathlib.Core.Path.{_≡_, refl, sym, ap, _∙_}
 use mathlib.Core.Bool.{Bool, true, false, cond}
 use mathlib.Core.List.{List, [], _∷_, _++_}
