@@ -3,6 +3,7 @@ pub mod Bounds
 pub mod Counts
 pub mod Exact
 pub mod Insertion
+pub mod Inverses
 pub mod Joins
 pub mod Keyed
 pub mod Lanes
@@ -20,3 +21,4 @@ pub mod Truncation
 pub mod Whole
 pub mod Writes
 pub mod Written
+pub mod Xors

@@ -1,4 +1,5 @@
 pub mod MixLaws
+pub mod UnmixLaws
 pub mod StreamLaws
 pub mod StageLaws
 pub mod DrawLaws

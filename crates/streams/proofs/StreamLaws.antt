@@ -11,7 +11,8 @@ use lib.Ieee.Exact.{HasValue, round-exact}
 use lib.Ieee.Order.{le-of-values}
 use Rattle.laws.specs.Floats.{f32Of, In}
 use Rattle.laws.proofs.Exact.{whole-value, nonneg-of-value, div-at, lt-of-values}
-use Rattle.streams.specs.Stream.{after, wordAt, nextU64Of, unitBy, unitAt, unitOf, IsUnit}
+use Rattle.streams.specs.Mix.{splitmixDrawOf}
+use Rattle.streams.specs.Stream.{newOf, after, wordAt, nextU64Of, unitBy, unitAt, unitOf, IsUnit}
 use Rattle.streams.specs.declared.stream.NoiseStream.{NoiseStream}
 use Rattle.streams.proofs.MixLaws.{splitmix-draw-lt}
 
@@ -60,6 +61,11 @@ module _ (s : NoiseStream) where
   pub unit-advances : unitOf s .stream ≡ after s 1
   unfolding unitOf
   unit-advances = refl
+
+-- draw n of the stream seeded at `seed`
+pub new-word : (seed n : ℕ) → n < 2 ^ 64 → wordAt (newOf seed) n ≡ splitmixDrawOf seed n
+unfolding wordAt
+new-word seed n h = ap (splitmixDrawOf seed) (omega arith)
 
 two24-value : HasValue (ofBits binary32 0x4b80_0000) false (2 ^ 24) 1
 unfolding ofBits

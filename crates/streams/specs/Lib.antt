@@ -1,4 +1,5 @@
 pub mod Mix
+pub mod Unmix
 pub mod Stream
 pub mod Stage
 pub mod Draw

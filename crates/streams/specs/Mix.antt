@@ -1,6 +1,6 @@
 -- SplitMix64 (Steele, Lea and Flood), with the finaliser constants of dsp.rs. Definitions only.
-use Prim.Native.Nat.{ℕ, _+_, _*_, _/_, _%_, _^_}
-use lib.Bits.{bitXor}
+use Prim.Native.Nat.{ℕ, _+_, _*_, _%_, _^_}
+use Rattle.laws.specs.Bits.{xorShift}
 
 abbrev pub goldenGamma : ℕ
 goldenGamma = 0x9e37_79b9_7f4a_7c15
@@ -10,10 +10,6 @@ splitmix64M1 = 0xbf58_476d_1ce4_e5b9
 
 abbrev pub splitmix64M2 : ℕ
 splitmix64M2 = 0x94d0_49bb_1331_11eb
-
--- z, and z shifted right by k bits, xored
-abbrev pub xorShift : ℕ → ℕ → ℕ
-xorShift z k = bitXor z (z / 2 ^ k)
 
 -- the finaliser
 unfoldable pub splitmix64Of : ℕ → ℕ
