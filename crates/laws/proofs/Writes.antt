@@ -2,6 +2,7 @@
 use mathlib.Core.Path.{_≡_, refl, sym, ap, _∙_}
 use mathlib.Core.List.{List, [], _∷_, _++_, append-assoc}
 use Prim.Native.Nat.{ℕ, _+_, _≤_}
+use native.Mathlib.Nat.{zero-add}
 use native.Mathlib.Omega.{arith}
 use lib.ListN.{length, set, take, drop, length-append, length-drop}
 use lib.Seq.{length-take-le, take-at, drop-append-add, drop-drop}
@@ -52,6 +53,11 @@ module _ {A : Type 0} {b b′ : List A} {at r n : ℕ} {xs : List A} where
   -- the same write, its size and its entries said in another way
   pub wrote-as : {m : ℕ} {ys : List A} → n ≡ m → xs ≡ ys → Wrote b b′ at r n xs → Wrote b b′ at r m ys
   wrote-as e f w = rw (← e, ← f) w
+
+-- from the first place on
+pub wrote-first : {A : Type 0} {b b′ : List A} {r n : ℕ} {xs : List A} → Wrote b b′ 0 r n xs → (r ≡ length xs) × (b′ ≡ xs ++ drop (length xs) b)
+unfolding splice
+wrote-first {A} {b} {b′} {r} {n} {xs} w = (omega (arith, w .next, w .size), w .bytes ∙ ap (λ (k : ℕ). xs ++ drop k b) (zero-add (length xs)))
 
 -- one entry
 pub wrote-set : {A : Type 0} (b : List A) (at : ℕ) (v : A) → at + 1 ≤ length b → Wrote b (set b at v) at (at + 1) 1 (v ∷ [])

@@ -4,14 +4,13 @@ use mathlib.Core.Path.{_≡_, refl, sym, _∙_}
 use mathlib.Core.Bool.{Bool, true, false, cond}
 use mathlib.Core.List.{List, _++_}
 use Prim.Native.Nat.{ℕ, _≤_, _<_}
-use native.Mathlib.Nat.{zero-add}
 use native.Mathlib.Omega.{arith}
 use borrow.Author.Tests.{lt-ltb, le-ltb}
 use lib.Dec.{ltb}
 use lib.ListN.{length, take, drop}
 use lib.Seq.{take-append-seam, drop-append-seam}
-use Rattle.laws.specs.Lists.{splice}
 use Rattle.laws.specs.Writes.{Wrote}
+use Rattle.laws.proofs.Writes.{wrote-first}
 use Rattle.composer.specs.declared.refusal.Outcome.{Outcome}
 use Rattle.composer.specs.declared.refusal.Refusal.{Refusal}
 use Rattle.pages.specs.Answer.{Asked, Writes, Declines, bytesOf, askedBy, writtenOf, bufferOf}
@@ -23,11 +22,10 @@ refused b bytes h =
     (rw e, rw e)
 
 pub served : {b b′ bytes : List ℕ} {r n : ℕ} → Wrote b b′ 0 r n bytes → (Written.Bytes r ≡ writtenOf (length b) (Writes bytes)) × (b′ ≡ bufferOf b (Writes bytes))
-unfolding splice
 served {b} {b′} {bytes} {r} {n} w =
     let e = le-ltb (length b) (length bytes) (omega (arith, w .size, w .fits)) in
-    let k : r ≡ length bytes = omega (arith, w .next, w .size) in
-    (rw (e, k), rw (e, w .bytes, zero-add (length bytes)))
+    let f = wrote-first w in
+    (rw (e, f .0), rw (e, f .1))
 
 -- ---- for readers
 -- a buffer long enough gets the bytes

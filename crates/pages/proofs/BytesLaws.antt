@@ -1,10 +1,10 @@
--- How long a field is, and the bytes of a number that is turned round. Assumes nothing.
-use mathlib.Core.Path.{_≡_, refl}
-use mathlib.Core.List.{List, [], _∷_}
+-- How long a field is, the bytes of a number that is turned round, and numbers read back. Assumes nothing.
+use mathlib.Core.Path.{_≡_, refl, sym, ap, _∙_}
+use mathlib.Core.List.{List, [], _∷_, _++_}
 use Prim.Native.Nat.{ℕ, _+_, _*_, _/_, _%_, _<_}
 use native.Mathlib.Omega.{arith}
 use lib.ListN.{length}
-use Rattle.pages.specs.Bytes.{be32, field}
+use Rattle.pages.specs.Bytes.{be32, be64, be64At, field}
 
 pub length-field : (tag : ℕ) (body : List ℕ) → length (field tag body) ≡ 3 + length body
 unfolding field
@@ -29,3 +29,17 @@ turned-bytes x y h e =
     let three = next-byte s r (omega arith) in
     let m = middle x in
     rw (e, one .0, one .1, two .0, two .1, three .0, three .1, m .0, m .1, m .2) refl
+
+-- ---- back
+pub size-back : (x : ℕ) → x / 256 * 256 + x % 256 ≡ x
+size-back x = omega arith
+
+four-back : (x : ℕ) → (x / 65536 / 256 * 256 + x / 65536 % 256) * 65536 + (x % 65536 / 256 * 256 + x % 65536 % 256) ≡ x
+four-back x = rw (size-back (x / 65536), size-back (x % 65536)) (omega arith)
+
+pub be64-back : (x : ℕ) (rest : List ℕ) → be64At (be64 x ++ rest) 0 ≡ x
+be64-back x rest = rw (four-back (x / 4294967296), four-back (x % 4294967296)) (omega arith)
+
+-- so numbers in bytes are told apart
+pub be64-injective : (x y : ℕ) → be64 x ≡ be64 y → x ≡ y
+be64-injective x y e = sym (be64-back x []) ∙ ap (λ (bytes : List ℕ). be64At bytes 0) e ∙ be64-back y []

@@ -4,6 +4,7 @@ pub mod Demand3
 pub mod LaneLaws
 pub mod PageLaws
 pub mod ReadLaws
+pub mod ReplyLaws
 pub mod ScoreLaws
 pub mod SheetLaws
 pub mod WritableLaws

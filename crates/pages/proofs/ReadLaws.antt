@@ -2,7 +2,7 @@
 use mathlib.Core.Path.{_≡_, refl, sym, ap, _∙_}
 use mathlib.Core.Bool.{false}
 use mathlib.Core.List.{List, [], _++_, append-nil}
-use Prim.Native.Nat.{ℕ, suc, _+_, _*_, _/_, _%_}
+use Prim.Native.Nat.{ℕ, suc, _+_}
 use native.Mathlib.Omega.{arith}
 use borrow.Author.Tests.{eq-eqb}
 use lib.Dec.{eqb}
@@ -17,9 +17,7 @@ use Rattle.pages.specs.Demand3.{bodyIn, bodyOf}
 use Rattle.pages.specs.Lane.{eventsOf, drawnFor}
 use Rattle.pages.specs.Page.{shown, pageBytes}
 use Rattle.pages.specs.declared.lane.Lane.{Lane}
-
-pub size-back : (x : ℕ) → x / 256 * 256 + x % 256 ≡ x
-size-back x = omega arith
+use Rattle.pages.proofs.BytesLaws.{size-back}
 
 -- the field that is asked for
 pub body-here : (n tag : ℕ) (body rest : List ℕ) → bodyIn (suc n) tag (field tag body ++ rest) ≡ body

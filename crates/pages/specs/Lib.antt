@@ -3,5 +3,6 @@ pub mod Bytes
 pub mod Demand3
 pub mod Lane
 pub mod Page
+pub mod Reply
 pub mod Sheet
 pub mod Writable

@@ -1,15 +1,20 @@
 -- Each answer is its case of the definition, by the lengths of the two slices. Assumes nothing.
-use mathlib.Core.Path.{refl, sym, _∙_}
-use borrow.Author.Tests.{lt-ltb, le-ltb, not-true, not-false}
-use lib.ListN.{length}
+use mathlib.Core.Path.{sym, _∙_}
+use borrow.Author.Tests.{not-true, not-false}
+use Rattle.composer.specs.declared.refusal.Refusal.{Refusal}
+use Rattle.pages.specs.Answer.{Declines}
+use Rattle.pages.specs.Sheet.{sheetAsked}
+use Rattle.pages.proofs.ReplyLaws.{replied-none, replied-whole, replied-after}
+use Rattle.pages.proofs.SheetLaws.{sheet-most}
 use Rattle.paper.specs.Record.{paperAsked}
-use Rattle.paper.proofs.RecordLaws.{record-least}
 use borrow.Author.Needs.{needs}
 use Rattle.paper.proofs.record.respond.Statement.{statement}
 use Rattle.paper.proofs.record.respond.Tie as tie
 
 returns : tie.Need-returns
-returns c = rw (lt-ltb (length (c .before .before .before .args .out .now)) 5164 (c .if1 .taken)) (refl, refl)
+returns c =
+    let a = c .before .before .before .args in
+    replied-none 5164 (paperAsked (a .input .now)) (a .out .now) (c .if1 .taken)
 
 is-record-requires : tie.Need-is-record-requires
 is-record-requires c κs = search needs
@@ -27,18 +32,20 @@ returns-2 c =
     let t = p .before .before in
     let l = t .before .before in
     let a = l .before .before .before .args in
-    rw (le-ltb (length (a .out .now)) 5164 (l .if1 .left), sym (t .before .is-record .ensures) ∙ not-true (t .before .is-record .result) (t .if2 .taken)) (p .put-refusal .ensures)
+    rw (sym (t .before .is-record .ensures) ∙ not-true (t .before .is-record .result) (t .if2 .taken))
+    (replied-whole 5164 (Declines Refusal.WrongLength) (a .out .now) (l .if1 .left) (p .put-refusal .ensures .0) (p .put-refusal .ensures .1))
 
 style-in-requires : tie.Need-style-in-requires
 style-in-requires c κs = search needs
 
-seed-in-requires : tie.Need-seed-in-requires
-seed-in-requires c κs =
-    let t = c .before in
-    record-least (t .before .before .before .before .before .args .input .now) (sym (t .before .is-record .ensures) ∙ not-false (t .before .is-record .result) (t .if2 .left))
+u64-at-requires : tie.Need-u64-at-requires
+u64-at-requires c κs = search needs
 
-put-sheet-requires : tie.Need-put-sheet-requires
-put-sheet-requires c κs = search needs
+sheet-requires : tie.Need-sheet-requires
+sheet-requires c κs = search needs
+
+reply-requires : tie.Need-reply-requires
+reply-requires c κs = search needs
 
 same-length-2 : tie.Need-same-length-2
 same-length-2 c = search needs
@@ -47,11 +54,13 @@ returns-3 : tie.Need-returns-3
 unfolding paperAsked
 returns-3 c =
     let p = c .before .before in
-    let s = p .before .before in
+    let w = p .before .before .before .before in
+    let s = w .before .before in
     let t = s .before .before in
     let l = t .before .before in
     let a = l .before .before .before .args in
-    rw (le-ltb (length (a .out .now)) 5164 (l .if1 .left), sym (t .before .is-record .ensures) ∙ not-false (t .before .is-record .result) (t .if2 .left), ← s .seed-in .ensures, ← s .before .style-in .ensures) (p .put-sheet .ensures)
+    rw (sym (t .before .is-record .ensures) ∙ not-false (t .before .is-record .result) (t .if2 .left), ← s .u64-at .ensures, ← s .before .style-in .ensures)
+    (replied-after 5164 (sheetAsked (s .before .style-in .result) (s .u64-at .result)) (a .out .now) (l .if1 .left) (sheet-most _ _) (w .sheet .ensures .0) (w .sheet .ensures .1) (p .reply .ensures .0) (p .reply .ensures .1))
 
 pub respond-spec : {M : Type 1} → statement M
 respond-spec =
@@ -63,7 +72,8 @@ respond-spec =
     same-length
     returns-2
     style-in-requires
-    seed-in-requires
-    put-sheet-requires
+    u64-at-requires
+    sheet-requires
+    reply-requires
     same-length-2
     returns-3)
