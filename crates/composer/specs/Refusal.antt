@@ -1,4 +1,5 @@
--- Document 01's numbers of refusals, and what an answer then is: a value, or a number alone. Definitions only.
+-- The numbers of refusals, by documents 01 and 02, and what an answer then is: a value, or a number alone.
+-- Definitions only.
 use Prim.Native.Nat.{ℕ}
 use Rattle.composer.specs.declared.refusal.Refusal.{Refusal}
 use Rattle.composer.specs.declared.refusal.Outcome.{Outcome}
@@ -9,6 +10,7 @@ numberOf Refusal.ShortBuffer = 2
 numberOf Refusal.NoSuchBar = 3
 numberOf Refusal.Malformed = 4
 numberOf Refusal.WrongLength = 5
+numberOf Refusal.HallCount = 6
 
 pub data Answer (A : Type 0) : Type 0 where
   Gives : A → Answer A

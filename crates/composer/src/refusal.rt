@@ -8,6 +8,7 @@ pub enum Refusal {
     NoSuchBar,
     Malformed,
     WrongLength,
+    HallCount,
 }
 
 impl Refusal {
@@ -21,6 +22,7 @@ impl Refusal {
             Refusal::NoSuchBar => 3,
             Refusal::Malformed => 4,
             Refusal::WrongLength => 5,
+            Refusal::HallCount => 6,
         }
     }
 }

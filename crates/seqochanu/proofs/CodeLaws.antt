@@ -1,9 +1,12 @@
--- What is written is no longer than what was asked, and so no longer than a sheet or a page can be. Assumes nothing.
+-- What is written is no longer than what was asked, and so no longer than a sheet, a page or a list can be.
+-- Assumes nothing.
 use Prim.Native.Nat.{ℕ, _^_, _≤_, _<_}
 use native.Mathlib.Omega.{arith}
 use lib.Dec.{ltb}
 use lib.ListN.{length}
 use Rattle.composer.specs.declared.refusal.Refusal.{Refusal}
+use Rattle.halls.specs.List.{listAsked}
+use Rattle.halls.proofs.ListLaws.{list-most}
 use Rattle.laws.proofs.Bools.{either}
 use Rattle.pages.specs.Answer.{Asked, Writes, Declines, bytesOf, writtenOf}
 use Rattle.pages.specs.Page.{pageAsked}
@@ -23,3 +26,6 @@ sheet-count room style seed = omega (arith, count-most room (sheetAsked style se
 
 pub page-count : (room style seed b : ℕ) → countOf (writtenOf room (pageAsked style seed b)) < 2 ^ 63
 page-count room style seed b = omega (arith, count-most room (pageAsked style seed b), page-most style seed b)
+
+pub list-count : (room hall n : ℕ) → countOf (writtenOf room (listAsked hall n)) < 2 ^ 63
+list-count room hall n = omega (arith, count-most room (listAsked hall n), list-most hall n)

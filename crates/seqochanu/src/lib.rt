@@ -1,11 +1,13 @@
-// The sheet and the bar page for C (include/seqochanu.h).
+// The sheet, the bar page and the hall list for C (include/seqochanu.h).
 ghost use mathlib.Core.Path.{_≡_};
 ghost use Prim.Native.Nat.{_^_, _<_};
 ghost use lib.ListN.{length};
+ghost use Rattle.halls.specs.List.{listAsked};
 ghost use Rattle.pages.specs.Answer.{writtenOf, bufferOf};
 ghost use Rattle.pages.specs.Page.{pageAsked};
 ghost use Rattle.pages.specs.Sheet.{sheetAsked};
 ghost use Rattle.seqochanu.specs.Code.{codeOf, countOf};
+use halls::list::hall_list;
 use pages::answer::Written;
 use pages::page::bar_page;
 use pages::sheet::sheet;
@@ -40,5 +42,16 @@ pub extern "C" fn seqochanu_bar_page(style: u8, seed: u64, bar: u64, buf: &mut [
     ensures { λ r. ⌜ now (buf .exit) ≡ bufferOf (now (buf .entry)) (pageAsked style seed bar) ⌝ }
 {
     let w = bar_page(style, seed, bar, buf);
+    code(w)
+}
+
+// Writes a hall's list of 1 to 4,096 seeds, 8 bytes each, from the buffer's first byte on and answers its length; what
+// lies beyond stays. Any other count is -6, then a buffer that is shorter than the list -2; neither writes anything.
+#[no_mangle]
+pub extern "C" fn seqochanu_hall_list(hall: u64, count: u64, buf: &mut [u8]) -> i64
+    ensures { λ r. ⌜ r ≡ codeOf (writtenOf (length (now (buf .entry))) (listAsked hall count)) ⌝ }
+    ensures { λ r. ⌜ now (buf .exit) ≡ bufferOf (now (buf .entry)) (listAsked hall count) ⌝ }
+{
+    let w = hall_list(hall, count, buf);
     code(w)
 }

@@ -1,0 +1,2 @@
+// The hall lists: all paper numbers of a hall, from its one hall number.
+pub mod list;
