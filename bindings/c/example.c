@@ -2,47 +2,12 @@
  *
  * PAPER is the paper number, STYLE 0 or 1, BAR the song bar, each 0 where it is left out. ROOM is the length of the
  * page's buffer, at most and else the longest page's. Ends with status 1 where a call is refused. */
-#include <errno.h>
 #include <stdio.h>
-#include <stdlib.h>
 
 #include "seqochanu.h"
 
-static const char *refusal(int64_t answer) {
-    switch (answer) {
-    case -1: return "no such style";
-    case -2: return "the buffer is too short";
-    case -3: return "the song has no such bar";
-    default: return "an answer that the header does not have";
-    }
-}
-
-/* The whole number in argv[i] if it is at most `most`; `otherwise` where there is no such word. */
-static uint64_t number(int argc, char **argv, int i, uint64_t most, uint64_t otherwise) {
-    char *end;
-    unsigned long long n;
-
-    if (i >= argc) {
-        return otherwise;
-    }
-    errno = 0;
-    n = strtoull(argv[i], &end, 10);
-    if (argv[i][0] < '0' || argv[i][0] > '9' || *end != '\0' || errno != 0 || n > most) {
-        fprintf(stderr, "example: %s is no whole number up to %llu\n", argv[i], (unsigned long long)most);
-        exit(2);
-    }
-    return n;
-}
-
-/* The count of a call that wrote; else says why not, and ends. */
-static int64_t written(const char *what, int64_t answer) {
-    if (answer < 0) {
-        fflush(stdout); /* what was printed before comes first */
-        fprintf(stderr, "example: no %s: %s\n", what, refusal(answer));
-        exit(1);
-    }
-    return answer;
-}
+#define PROGRAM "example"
+#include "words.h"
 
 int main(int argc, char **argv) {
     static uint8_t sheet[SEQOCHANU_SHEET_MOST];
@@ -53,7 +18,7 @@ int main(int argc, char **argv) {
     int64_t count, i;
 
     if (argc < 2 || argc > 5) {
-        fprintf(stderr, "example: give PAPER [STYLE [BAR [ROOM]]]\n");
+        fprintf(stderr, PROGRAM ": give PAPER [STYLE [BAR [ROOM]]]\n");
         return 2;
     }
     paper = number(argc, argv, 1, UINT64_MAX, 0);

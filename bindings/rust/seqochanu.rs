@@ -1,4 +1,4 @@
-//! Sheets and bar pages of songs: a safe wrapper of include/seqochanu.h.
+//! Sheets and bar pages of songs, and lists of a hall's papers: a safe wrapper of include/seqochanu.h.
 //!
 //! The C functions ask that the buffer is not NULL, that its bytes are set and may be read and written, and that
 //! nothing else uses them during the call. A `&mut [u8]` is all of that, an empty one too, so nothing is left to check.
@@ -6,18 +6,21 @@
 use std::error::Error;
 use std::fmt;
 
-/// The two C functions as they are declared in include/seqochanu.h.
+/// The C functions as they are declared in include/seqochanu.h.
 pub mod raw {
     #[link(name = "seqochanu", kind = "static")]
     unsafe extern "C" {
         pub fn seqochanu_sheet(style: u8, seed: u64, buf: *mut u8, len: usize) -> i64;
         pub fn seqochanu_bar_page(style: u8, seed: u64, bar: u64, buf: *mut u8, len: usize) -> i64;
+        pub fn seqochanu_hall_list(hall: u64, count: u64, buf: *mut u8, len: usize) -> i64;
     }
 }
 
-/// No sheet and no page is longer, in bytes.
+/// No sheet, page or list is longer, in bytes, and no list has more seeds.
 pub const SHEET_MOST: usize = 5164;
 pub const PAGE_MOST: usize = 653;
+pub const LIST_MOST: usize = 32768;
+pub const COUNT_MOST: u64 = 4096;
 
 /// A song's style; its number is the one on the sheet.
 #[derive(Clone, Copy, Debug, PartialEq, Eq)]
@@ -39,21 +42,23 @@ impl TryFrom<u8> for Style {
     }
 }
 
-/// Why nothing was written, by document 01's numbers.
+/// Why nothing was written, by the numbers of documents 01 and 02.
 #[derive(Clone, Copy, Debug, PartialEq, Eq)]
 #[repr(u8)]
 pub enum Refusal {
     UnknownStyle = 1,
     ShortBuffer = 2,
     NoSuchBar = 3,
+    HallCount = 6,
 }
 
 impl fmt::Display for Refusal {
     fn fmt(&self, f: &mut fmt::Formatter<'_>) -> fmt::Result {
         f.write_str(match self {
             Self::UnknownStyle => "no such style",
-            Self::ShortBuffer => "the buffer is shorter than this sheet or page",
+            Self::ShortBuffer => "the buffer is shorter than this sheet, page or list",
             Self::NoSuchBar => "the song has no such bar",
+            Self::HallCount => "the count is outside 1 to 4,096",
         })
     }
 }
@@ -66,6 +71,7 @@ fn written(answer: i64) -> Result<usize, Refusal> {
         -1 => Err(Refusal::UnknownStyle),
         -2 => Err(Refusal::ShortBuffer),
         -3 => Err(Refusal::NoSuchBar),
+        -6 => Err(Refusal::HallCount),
         count => Ok(usize::try_from(count).expect("no refusal has another number")),
     }
 }
@@ -80,6 +86,12 @@ pub fn sheet(style: Style, seed: u64, buf: &mut [u8]) -> Result<usize, Refusal> 
 pub fn bar_page(style: Style, seed: u64, bar: u64, buf: &mut [u8]) -> Result<usize, Refusal> {
     let (bytes, len) = (buf.as_mut_ptr(), buf.len());
     written(unsafe { raw::seqochanu_bar_page(style as u8, seed, bar, bytes, len) })
+}
+
+/// Writes the first `count` seeds of a hall, 8 bytes each; their length. A refusal leaves `buf` as it was.
+fn list_into(hall: u64, count: u64, buf: &mut [u8]) -> Result<usize, Refusal> {
+    let (bytes, len) = (buf.as_mut_ptr(), buf.len());
+    written(unsafe { raw::seqochanu_hall_list(hall, count, bytes, len) })
 }
 
 /// The sheet of a seed's song.
@@ -101,17 +113,41 @@ pub fn pages(style: Style, seed: u64) -> impl Iterator<Item = Vec<u8>> {
     })
 }
 
+/// The first `count` paper numbers of a hall, 1 to `COUNT_MOST` of them; no two are equal.
+pub fn hall_list(hall: u64, count: u64) -> Result<Vec<u64>, Refusal> {
+    // a greater count is refused whatever the buffer, so the longest list's room is enough to ask with
+    let mut seeds = vec![[0; 8]; count.min(COUNT_MOST) as usize];
+    list_into(hall, count, seeds.as_flattened_mut())?;
+    Ok(seeds.into_iter().map(u64::from_be_bytes).collect())
+}
+
 #[cfg(test)]
 mod tests {
     use super::*;
+    use std::collections::HashSet;
 
     const STYLES: [Style; 2] = [Style::Hiphop, Style::Sleep];
     const SEEDS: [u64; 4] = [0, 1, 1234567, u64::MAX];
+
+    /// SplitMix64's first numbers for the seed 1234567, as they are published.
+    const PUBLISHED: [u64; 5] = [
+        6457827717110365317,
+        3203168211198807973,
+        9817491932198370423,
+        4593380528125082431,
+        16408922859458223821,
+    ];
 
     fn songs() -> impl Iterator<Item = (Style, u64)> {
         STYLES
             .into_iter()
             .flat_map(|style| SEEDS.map(|seed| (style, seed)))
+    }
+
+    fn lists() -> impl Iterator<Item = (u64, u64)> {
+        SEEDS
+            .into_iter()
+            .flat_map(|hall| [1, 5, COUNT_MOST].map(|count| (hall, count)))
     }
 
     /// A buffer with another byte than its neighbours at each place.
@@ -217,9 +253,63 @@ mod tests {
     }
 
     #[test]
-    fn refusals_have_the_numbers_of_document_01() {
-        use Refusal::{NoSuchBar, ShortBuffer, UnknownStyle};
-        for refusal in [UnknownStyle, ShortBuffer, NoSuchBar] {
+    fn a_hall_list_has_the_published_numbers() {
+        assert_eq!(hall_list(1234567, 5).unwrap(), PUBLISHED);
+        assert_eq!(hall_list(0, 1).unwrap(), [16294208416658607535]);
+    }
+
+    #[test]
+    fn a_hall_list_has_as_many_seeds_as_asked_and_no_two_equal() {
+        for hall in SEEDS {
+            let longest = hall_list(hall, COUNT_MOST).unwrap();
+            assert_eq!(longest.len() * 8, LIST_MOST);
+            assert_eq!(longest.iter().collect::<HashSet<_>>().len(), 4096);
+            for count in [1, 2, 5, 4095, 4096] {
+                // a longer list starts with the shorter one
+                assert_eq!(hall_list(hall, count as u64).unwrap(), longest[..count]);
+            }
+        }
+    }
+
+    #[test]
+    fn a_hall_list_is_written_into_every_buffer_with_room() {
+        for (hall, count) in lists() {
+            let seeds = hall_list(hall, count).unwrap();
+            let bytes: Vec<u8> = seeds.into_iter().flat_map(u64::to_be_bytes).collect();
+            for room in [bytes.len(), bytes.len() + 9, LIST_MOST + 9] {
+                let mut buf = marked(room);
+                assert_eq!(list_into(hall, count, &mut buf), Ok(bytes.len()));
+                assert_eq!(buf[..bytes.len()], bytes);
+                assert_eq!(buf[bytes.len()..], marked(room)[bytes.len()..]);
+            }
+            for room in [bytes.len() - 1, bytes.len() - 8, 0] {
+                let mut buf = marked(room);
+                assert_eq!(list_into(hall, count, &mut buf), Err(Refusal::ShortBuffer));
+                assert_eq!(buf, marked(room));
+            }
+        }
+    }
+
+    #[test]
+    fn a_count_out_of_range_is_refused_before_a_short_buffer() {
+        // eight times 2^61 is 0 modulo 2^64, and would fit any buffer
+        for count in [0, 4097, 1 << 16, 1 << 32, 1 << 61, (1 << 61) + 1, u64::MAX] {
+            for hall in SEEDS {
+                let refusal = Refusal::HallCount;
+                assert_eq!(hall_list(hall, count), Err(refusal));
+                for room in [0, 7, LIST_MOST, LIST_MOST + 9] {
+                    let mut buf = marked(room);
+                    assert_eq!(list_into(hall, count, &mut buf), Err(refusal));
+                    assert_eq!(buf, marked(room));
+                }
+            }
+        }
+    }
+
+    #[test]
+    fn refusals_have_the_numbers_of_the_documents() {
+        use Refusal::{HallCount, NoSuchBar, ShortBuffer, UnknownStyle};
+        for refusal in [UnknownStyle, ShortBuffer, NoSuchBar, HallCount] {
             assert_eq!(written(-(refusal as i64)), Err(refusal));
         }
         assert_eq!(written(17), Ok(17));
