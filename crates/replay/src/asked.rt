@@ -1,4 +1,5 @@
 // What a line asks. The letters are said beside the data, in README.md.
+use halls::list::hall_list;
 use pages::answer::Written;
 use pages::page::bar_page;
 use pages::sheet::sheet;
@@ -13,6 +14,7 @@ use probe::scores::probe_score;
 use probe::scores::probe_unbeaten;
 use probe::stages::probe_stage_seed;
 use streams::mix::wrapping_mul_u64;
+use streams::unmix::undraw;
 
 fn stage_seed(seed: u64, stage: u64) -> u64 {
     let mut out = [0u64; 1];
@@ -140,12 +142,19 @@ fn paper_fold(style: u8, seed: u64, k: u64) -> u64 {
     }
 }
 
+fn list_fold(hall: u64, count: u64) -> u64 {
+    let mut buf = [0u8; 32768];
+    let written = hall_list(hall, count, &mut buf);
+    written_fold(written, &buf)
+}
+
 // Our answer; the largest number for a letter that asks nothing.
 pub fn answer(what: u8, a: u64, b: u64) -> u64 {
     match what {
         b'S' => stage_seed(a, b),
         b'W' => word(a, b),
         b'U' => unit(a, b),
+        b'D' => undraw(a, b),
         b'P' => pick(a, b),
         b'C' => coin(a),
         b'F' => probe_form(a, (b % 256) as u8),
@@ -156,6 +165,7 @@ pub fn answer(what: u8, a: u64, b: u64) -> u64 {
         b'z' => folded(1, a, b),
         b'M' => paper_fold(0, a, b),
         b'N' => paper_fold(1, a, b),
+        b'L' => list_fold(a, b),
         _ => u64::MAX,
     }
 }

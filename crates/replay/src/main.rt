@@ -80,5 +80,6 @@ fn main() {
     replay(b"forms");
     replay(b"songs");
     replay(b"pages");
+    replay(b"halls");
     replay(b"wrong");
 }

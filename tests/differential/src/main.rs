@@ -1,8 +1,8 @@
 //! Feeds the Rust and our static libraries the same inputs and compares every value.
 //!
-//! `differential PROGRAM COUNT START` compares over COUNT seeds, and what our PROGRAM writes;
-//! `differential --record DIR` writes a sample of the Rust's answers. The Rust's own files stand beside
-//! this one when it is compiled (see `run`).
+//! `differential PAPER HALL COUNT START` compares over COUNT seeds, and what our programs at the paths PAPER and
+//! HALL write; `differential --record DIR` writes a sample of the Rust's answers. The Rust's own files stand
+//! beside this one when it is compiled (see `run`).
 
 // the Rust's files are compiled whole, and the driver asks for a part of them
 #[allow(dead_code, unused_imports)]
@@ -19,8 +19,10 @@ mod synth;
 mod seqochanu;
 
 mod bytes;
+mod calls;
 mod draws;
 mod forms;
+mod halls;
 mod hits;
 mod made;
 mod ours;
@@ -50,9 +52,11 @@ fn compare(from: u64, to: u64) -> Tally {
         forms::compare_seed(&mut tally, seed);
         scores::compare_seed(&mut tally, seed);
         pages::compare_seed(&mut tally, seed);
+        halls::compare_seed(&mut tally, seed);
         if i % 15 == 0 {
             made::compare_seed(&mut tally, seed);
             hits::compare_seed(&mut tally, seed);
+            halls::compare_longest(&mut tally, seed);
         }
     }
     tally
@@ -79,8 +83,10 @@ fn main() {
     if words.first().is_some_and(|w| w == "--record") {
         return record::write(words.get(1).expect("a folder to write to"));
     }
-    let program = words.first().expect("our program's path");
-    let (count, start) = (number(words.get(1), 100_000), number(words.get(2), 0));
+    let [paper, hall, rest @ ..] = &words[..] else {
+        panic!("the paths of our two programs");
+    };
+    let (count, start) = (number(rest.first(), 100_000), number(rest.get(1), 0));
     let mut edges = Tally::default();
     draws::compare_edges(&mut edges);
     forms::compare_edges(&mut edges);
@@ -88,7 +94,9 @@ fn main() {
     scores::compare_edges(&mut edges);
     hits::compare_edges(&mut edges);
     pages::compare_edges(&mut edges);
-    program::compare_edges(&mut edges, program);
+    halls::compare_edges(&mut edges);
+    program::paper::compare_edges(&mut edges, paper);
+    program::hall::compare_edges(&mut edges, hall);
     let all = edges.join(compare_all(start, count));
     let (values, sheet, page) = (all.compared, all.sheet, all.page);
     println!(

@@ -2,7 +2,7 @@
 //! wrappers. A slice passes as a pointer and a length; no function asks more of its caller.
 
 use crate::compose::reach::form::Parts;
-use crate::seqochanu::raw::{seqochanu_bar_page, seqochanu_sheet};
+use crate::seqochanu::raw::{seqochanu_bar_page, seqochanu_hall_list, seqochanu_sheet};
 
 mod raw {
     unsafe extern "C" {
@@ -133,4 +133,8 @@ pub fn sheet(style: u8, seed: u64, buf: &mut [u8]) -> i64 {
 
 pub fn bar_page(style: u8, seed: u64, bar: u64, buf: &mut [u8]) -> i64 {
     unsafe { seqochanu_bar_page(style, seed, bar, buf.as_mut_ptr(), buf.len()) }
+}
+
+pub fn hall_list(hall: u64, count: u64, buf: &mut [u8]) -> i64 {
+    unsafe { seqochanu_hall_list(hall, count, buf.as_mut_ptr(), buf.len()) }
 }

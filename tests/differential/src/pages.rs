@@ -1,43 +1,12 @@
 //! The sheets and bar pages: the answer, every byte written, and every byte that must stay.
 
 use crate::bytes::{PAGE_MOST, SHEET_MOST, page, sheet};
+use crate::calls::{Asked, compare_call};
 use crate::compose::reach::{STYLES, Take, take};
 use crate::compose::{Form, arrange};
 use crate::dsp::reach::{next_u64, stream};
 use crate::tally::Tally;
 use crate::{ours, sample, songs};
-
-/// What a call has to write, or the number of document 01's refusal.
-type Asked<'a> = Result<&'a [u8], i64>;
-
-/// How many places behind the buffer are looked at.
-const BEHIND: usize = 16;
-
-/// A call with a buffer of `len` places: its answer, the buffer, and what lies behind it.
-fn compare_call(
-    tally: &mut Tally,
-    what: impl Fn() -> String,
-    asked: Asked,
-    len: usize,
-    call: impl FnOnce(&mut [u8]) -> i64,
-) {
-    let (answer, written) = match asked {
-        Ok(bytes) if bytes.len() <= len => (bytes.len() as i64, bytes),
-        Ok(_) => (-2, &[][..]),
-        Err(number) => (-number, &[][..]),
-    };
-    // before the call no place has the byte that may come there, so that each write shows
-    let mut wanted: Vec<u8> = (0..len + BEHIND).map(|i| 0x55 ^ i as u8).collect();
-    for (place, byte) in wanted.iter_mut().zip(asked.unwrap_or_default()) {
-        *place = !byte;
-    }
-    let mut places = wanted.clone();
-    let ours = call(&mut places[..len]);
-    wanted[..written.len()].copy_from_slice(written);
-    let what = || format!("{}, {len} places", what());
-    tally.same(|| format!("the answer of {}", what()), answer, ours);
-    tally.same_bytes(what, &wanted, &places);
-}
 
 fn sheet_call(tally: &mut Tally, style: u8, seed: u64, asked: Asked, len: usize) {
     let what = || format!("the sheet of {seed:#x} in style {style}");

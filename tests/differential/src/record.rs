@@ -7,6 +7,7 @@ use crate::compose::reach::{STAGES, STYLES, coin, kicks, pick, take};
 use crate::compose::{Form, arrange};
 use crate::draws::stream_with;
 use crate::dsp::reach::{next_u64, seed_of, stream};
+use crate::halls::{HALLS, LIST_MOST, list};
 use crate::scores::unbeaten;
 use crate::words::{kick_words, words_of};
 use crate::{forms, sample, songs};
@@ -16,15 +17,17 @@ use std::collections::{BTreeMap, BTreeSet};
 type Line = (char, u64, u64, u64);
 
 /// S: the seed of stage b's stream for the song seed a. W, U: draw b of the stream a, as a word and as
-/// a unit's bits. C: the first coin of the stream a.
+/// a unit's bits. D: the seed of the stream whose draw b is a. C: the first coin of the stream a.
 fn stage_lines(lines: &mut Vec<Line>, seed: u64) {
     for (id, stage) in (1u64..).zip(STAGES) {
         let theirs = seed_of(&stage.stream(seed));
         let at = |n: u64| stream(theirs, n - 1);
         lines.push(('S', seed, id, theirs));
         for n in [1, 2, 300] {
-            lines.push(('W', theirs, n, next_u64(&mut at(n))));
+            let word = next_u64(&mut at(n));
+            lines.push(('W', theirs, n, word));
             lines.push(('U', theirs, n, at(n).unit().to_bits().into()));
+            lines.push(('D', word, n, theirs));
         }
         lines.push(('C', theirs, 0, coin(&mut at(1)).into()));
     }
@@ -115,6 +118,17 @@ fn page_lines(lines: &mut Vec<Line>, seed: u64) {
     }
 }
 
+/// L: a fold of the list of b seeds of hall a, or document 02's refusal.
+fn hall_lines(lines: &mut Vec<Line>, hall: u64) {
+    for count in [1, 2, 3, 100, 4096, 0, 4097, u64::MAX] {
+        let answer = match list(hall, count) {
+            Ok(bytes) => byte_fold(&bytes, LIST_MOST),
+            Err(number) => number.into(),
+        };
+        lines.push(('L', hall, count, answer));
+    }
+}
+
 fn write_lines(folder: &str, name: &str, lines: &[Line]) {
     let text: String = (lines.iter())
         .map(|(what, a, b, answer)| format!("{what} {a:016x} {b:016x} {answer:016x}\n"))
@@ -141,4 +155,9 @@ pub fn write(folder: &str) {
     }
     write_lines(folder, "songs", &songs);
     write_lines(folder, "pages", &pages);
+    let mut halls = Vec::new();
+    for hall in HALLS {
+        hall_lines(&mut halls, hall);
+    }
+    write_lines(folder, "halls", &halls);
 }
