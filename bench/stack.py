@@ -68,8 +68,8 @@ def callee(name, step, filled, code):
 
 
 def frame_of(name, steps, tables):
-    """The bytes that a function pushes and takes from the stack pointer, all together."""
-    size, probed = 0, False
+    """The bytes that a function pushes, takes from the stack pointer and uses below it, all together."""
+    size, below, probed = 0, 0, False
     for step, _ in steps:
         word, _, operands = step.partition(" ")
         operands = operands.strip()
@@ -92,7 +92,10 @@ def frame_of(name, steps, tables):
             size += max(0, 2**64 - int(taken[1], 16)) if int(taken[1], 16) >= 2**63 else 0
         elif operands.endswith(",%rsp") and word not in ("cmp", "test"):
             give_up(f"{name} has `{step}`")
-    return size
+        elif used := re.search(r"-(0x[0-9a-f]+)\(%rsp", operands):
+            # a function that calls nothing may leave the stack pointer where it is
+            below = max(below, int(used[1], 16))
+    return size + below
 
 
 def main():
