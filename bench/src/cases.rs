@@ -1,9 +1,11 @@
-//! What is measured: each case, done by our libraries and by the Rust for the same song.
+//! What is measured: each case, done by our libraries and by the Rust for the same song, or by plain C for the same
+//! hall.
 
 use crate::compose::reach::STYLES;
 use crate::compose::song::{Song, song};
 use crate::compose::{Form, arrange};
-use crate::seqochanu::{self, PAGE_MOST, SHEET_MOST, Style};
+use crate::seqochanu::raw::seqochanu_hall_list;
+use crate::seqochanu::{self, COUNT_MOST, LIST_MOST, PAGE_MOST, SHEET_MOST, Style};
 use crate::{sum, writer};
 use std::hint::black_box;
 
@@ -12,9 +14,15 @@ mod raw {
     unsafe extern "C" {
         pub safe fn probe_song(style: u8, seed: u64) -> u64;
     }
+
+    // hall.c's
+    unsafe extern "C" {
+        pub fn plain_hall_list(hall: u64, count: usize, buf: *mut u8) -> usize;
+    }
 }
 
-/// A song to be made, and how many bars it has, which a player has read on its sheet.
+/// A song to be made, and how many bars it has, which a player has read on its sheet. To a case of halls its seed is a
+/// hall's number.
 #[derive(Clone, Copy)]
 pub struct Asked {
     pub style: u8,
@@ -46,11 +54,31 @@ pub struct Side {
     pub run: Box<dyn FnMut(Asked) -> u64>,
 }
 
-/// The first side is ours. `batch` songs are made in a round.
+impl Side {
+    /// Whose side it is: its name without how it goes about its work.
+    pub fn whose(&self) -> &str {
+        self.name.split(',').next().unwrap_or(self.name)
+    }
+}
+
+const BOTH: &[u8] = &[0, 1];
+
+/// The first side is ours. `batch` songs are made in a round. Where the style says nothing, `styles` has just one.
 pub struct Case {
     pub name: &'static str,
+    pub styles: &'static [u8],
     pub batch: usize,
     pub sides: Vec<Side>,
+}
+
+impl Case {
+    /// Its name, behind the style where that says something.
+    pub fn title(&self, style: u8) -> String {
+        match self.styles {
+            [_] => self.name.into(),
+            _ => format!("style {style}, {}", self.name),
+        }
+    }
 }
 
 fn side(name: &'static str, run: impl FnMut(Asked) -> u64 + 'static) -> Side {
@@ -62,6 +90,7 @@ fn side(name: &'static str, run: impl FnMut(Asked) -> u64 + 'static) -> Side {
 fn songs() -> Case {
     Case {
         name: "compose and arrange",
+        styles: BOTH,
         batch: 20,
         sides: vec![
             side("ours", |a| raw::probe_song(a.style, a.seed)),
@@ -78,6 +107,7 @@ fn sheets() -> Case {
     let mut rust = [0; SHEET_MOST];
     Case {
         name: "sheet",
+        styles: BOTH,
         batch: 20,
         sides: vec![
             side("ours", move |a| {
@@ -119,6 +149,7 @@ fn pages() -> Case {
     };
     Case {
         name: "all pages",
+        styles: BOTH,
         batch: 2,
         sides: vec![
             side("ours", ours),
@@ -128,8 +159,43 @@ fn pages() -> Case {
     }
 }
 
-pub fn all() -> [Case; 3] {
+/// The length of our list of a hall, the longest that there is.
+fn our_list(hall: u64, buf: &mut [u8; LIST_MOST]) -> usize {
+    let answer = unsafe { seqochanu_hall_list(hall, COUNT_MOST, buf.as_mut_ptr(), LIST_MOST) };
+    usize::try_from(answer).expect("room")
+}
+
+/// The same by plain C.
+fn plain_list(hall: u64, buf: &mut [u8; LIST_MOST]) -> usize {
+    unsafe { raw::plain_hall_list(hall, COUNT_MOST as usize, buf.as_mut_ptr()) }
+}
+
+fn lists() -> Case {
+    let list = |name, list: fn(u64, &mut [u8; LIST_MOST]) -> usize| {
+        let mut buf = [0; LIST_MOST];
+        side(name, move |a| {
+            let len = list(a.seed, &mut buf);
+            black_box(&buf)[..len].len() as u64
+        })
+    };
+    Case {
+        name: "hall list",
+        styles: &[0],
+        batch: 20,
+        sides: vec![list("ours", our_list), list("C", plain_list)],
+    }
+}
+
+pub fn of_songs() -> [Case; 3] {
     [songs(), sheets(), pages()]
+}
+
+pub fn of_halls() -> [Case; 1] {
+    [lists()]
+}
+
+pub fn all() -> impl Iterator<Item = Case> {
+    of_songs().into_iter().chain(of_halls())
 }
 
 /// Stops where our libraries and the Rust differ on a song: then the times would not be those of the same work.
@@ -149,4 +215,15 @@ pub fn check(a: Asked) {
         bars += 1;
     }
     assert_eq!(bars, a.bars, "the pages {what}");
+}
+
+/// Stops where our list of a hall and that of plain C differ.
+pub fn check_list(hall: u64) {
+    let (mut ours, mut plain) = ([0; LIST_MOST], [0; LIST_MOST]);
+    let lengths = [our_list(hall, &mut ours), plain_list(hall, &mut plain)];
+    assert_eq!(
+        lengths, [LIST_MOST; 2],
+        "the length of hall {hall:#x}'s list"
+    );
+    assert!(ours == plain, "the list of hall {hall:#x}");
 }

@@ -37,18 +37,21 @@ fn rounds(case: &mut Case, songs: &[Asked], passes: usize) -> Vec<Vec<f64>> {
     times
 }
 
-/// Prints a case's times in one style.
-pub fn report(case: &mut Case, songs: &[Asked], passes: usize) {
-    let times = rounds(case, songs, passes);
-    let (name, style) = (case.name, songs[0].style);
+/// Prints a case's times for the songs, which are of one style.
+pub fn report(mut case: Case, songs: &[Asked]) {
+    // some hundreds of rounds
+    let passes = case.batch.div_ceil(4);
+    let times = rounds(&mut case, songs, passes);
+    let title = case.title(songs[0].style);
     let ours = &times[0];
-    for (side, rust) in case.sides.iter().zip(&times).skip(1) {
-        let ratios: Vec<f64> = ours.iter().zip(rust).map(|(o, r)| o / r).collect();
-        let (o, r) = (quantile(ours, 0.5), quantile(rust, 0.5));
+    for (side, theirs) in case.sides.iter().zip(&times).skip(1) {
+        let ratios: Vec<f64> = ours.iter().zip(theirs).map(|(o, t)| o / t).collect();
+        let (o, t) = (quantile(ours, 0.5), quantile(theirs, 0.5));
         println!(
-            "style {style}, {name}: ours {o:.2} µs, {} {r:.2} µs; ours / Rust {:.2}, quartiles {:.2} and {:.2} of {} rounds",
+            "{title}: ours {o:.2} µs, {} {t:.2} µs; ours / {} {:.2}, quartiles {:.2} and {:.2} of {} rounds",
             side.name,
-            o / r,
+            side.whose(),
+            o / t,
             quantile(&ratios, 0.25),
             quantile(&ratios, 0.75),
             ratios.len(),

@@ -1,8 +1,9 @@
-//! Measures our static libraries and the Rust on the same songs. The Rust's own files stand beside this one when
-//! it is compiled (see `run`).
+//! Measures our static libraries and the Rust on the same songs, and our lists of halls beside plain C. The Rust's own
+//! files stand beside this one when it is compiled (see `run`).
 //!
-//! `bench times` prints times, `bench stack` the stack that our calls took. `bench sides` lists what can be counted, and
-//! `bench count CASE SIDE STYLE` does it for a few songs inside `bench_measured`, for a tool that counts instructions.
+//! `bench times` prints times for songs, `bench lists` those for lists, `bench stack` the stack that our calls took.
+//! `bench sides` says what can be counted, and `bench count CASE SIDE STYLE` does it for a few songs or halls inside
+//! `bench_measured`, for a tool that counts instructions.
 
 // the Rust's files are compiled whole, and the driver asks for a part of them
 #[allow(dead_code, unused_imports)]
@@ -14,9 +15,12 @@ mod style;
 #[allow(dead_code)]
 mod synth;
 
+// of the list, our wrapper's C function alone is asked for: its safe call makes a vector
+#[allow(dead_code)]
+mod seqochanu;
+
 mod cases;
 mod clock;
-mod seqochanu;
 mod stack;
 mod sum;
 mod writer;
@@ -43,18 +47,29 @@ fn times() {
             "style {style}: {TIMED} songs of {:.1} pages",
             pages as f64 / TIMED as f64
         );
-        for mut case in cases::all() {
-            // some hundreds of rounds for each case
-            let passes = case.batch.div_ceil(4);
-            clock::report(&mut case, &songs, passes);
+        for case in cases::of_songs() {
+            clock::report(case, &songs);
         }
     }
 }
 
+fn lists() {
+    let halls = songs(0, TIMED);
+    for a in &halls {
+        cases::check_list(a.seed);
+    }
+    for case in cases::of_halls() {
+        clock::report(case, &halls);
+    }
+}
+
+/// A line for each thing that can be counted: what `count` is told, then its name.
 fn sides() {
-    for (i, case) in cases::all().iter().enumerate() {
+    for (i, case) in cases::all().enumerate() {
         for (k, side) in case.sides.iter().enumerate() {
-            println!("{i} {k} {}: {}", case.name, side.name);
+            for &style in case.styles {
+                println!("{i} {k} {style} {}: {}", case.title(style), side.name);
+            }
         }
     }
 }
@@ -76,7 +91,7 @@ fn bench_measured(side: &mut Side, songs: &[Asked]) {
 
 fn count(case: usize, side: usize, style: u8) {
     let songs = songs(style, COUNTED);
-    let side = &mut cases::all()[case].sides[side];
+    let side = &mut cases::all().nth(case).expect("a case").sides[side];
     // a first run outside, after which nothing is made or looked up once for all
     for &a in &songs {
         black_box((side.run)(a));
@@ -90,11 +105,12 @@ fn main() {
     let number = |word: &str| word.parse().expect("a whole number");
     match words[..] {
         ["times"] => times(),
+        ["lists"] => lists(),
         ["sides"] => sides(),
         ["count", case, side, style] => {
             count(number(case), number(side), number(style) as u8);
         }
         ["stack"] => stack::report([songs(0, TIMED), songs(1, TIMED)].concat()),
-        _ => panic!("times, sides, count CASE SIDE STYLE, or stack"),
+        _ => panic!("times, lists, sides, count CASE SIDE STYLE, or stack"),
     }
 }

@@ -1,9 +1,9 @@
-//! The stack that our two calls were seen to take: it is marked before the calls, and the deepest byte that
+//! The stack that our calls were seen to take: it is marked before the calls, and the deepest byte that
 //! they changed tells. A bound for all calls is stack.py's.
 
 use crate::cases::Asked;
-use crate::seqochanu::raw::{seqochanu_bar_page, seqochanu_sheet};
-use crate::seqochanu::{PAGE_MOST, SHEET_MOST};
+use crate::seqochanu::raw::{seqochanu_bar_page, seqochanu_hall_list, seqochanu_sheet};
+use crate::seqochanu::{COUNT_MOST, LIST_MOST, PAGE_MOST, SHEET_MOST};
 
 /// How far down the stack is marked, and what is left for this module's own calls.
 const MARKED: usize = 512 << 10;
@@ -71,11 +71,27 @@ fn pages(songs: &[Asked]) -> usize {
     all.last().expect("a page")
 }
 
-/// Prints the most stack that each function took over the songs.
+/// A list may take less stack than is left for this module, so its calls need a frame below that: the buffer has one.
+#[inline(never)]
+fn lists(songs: &[Asked]) -> usize {
+    let mut buf = [0u8; LIST_MOST];
+    let (bytes, len) = (buf.as_mut_ptr() as u64, LIST_MOST as u64);
+    let function = seqochanu_hall_list as *const () as usize;
+    let all = songs
+        .iter()
+        .map(|a| call(function, [a.seed, COUNT_MOST, bytes, len, 0]));
+    all.last().expect("a hall")
+}
+
+/// Prints the most stack that each function took over the songs, and over the halls of their seeds.
 pub fn report(songs: Vec<Asked>) {
     let measure = move || {
         println!("seqochanu_sheet: took {} bytes", taken(|| sheets(&songs)));
         println!("seqochanu_bar_page: took {} bytes", taken(|| pages(&songs)));
+        println!(
+            "seqochanu_hall_list: took {} bytes",
+            taken(|| lists(&songs))
+        );
     };
     let thread = std::thread::Builder::new().stack_size(STACK).spawn(measure);
     thread.expect("a thread").join().expect("it ended");
