@@ -1,5 +1,5 @@
--- A call that has bytes to write answers refusal 2 and writes nothing where the buffer is shorter, and else writes them, whatever
--- the buffer held; what stood beyond them stays. Assumes nothing.
+-- A call that has bytes to write answers refusal 2 and writes nothing where the buffer is shorter, and else writes them,
+-- whatever the buffer held; what stood beyond them stays. Assumes nothing.
 use mathlib.Core.Path.{_≡_, refl, sym, _∙_}
 use mathlib.Core.Bool.{Bool, true, false, cond}
 use mathlib.Core.List.{List, _++_}

@@ -1,4 +1,5 @@
--- What every stream keeps: a draw is below 2^64, takes the counter one on and keeps the seed, and a unit is exact. Assumes nothing.
+-- What every stream keeps: a draw is below 2^64, takes the counter one on and keeps the seed, and a unit is exact.
+-- Assumes nothing.
 use mathlib.Core.Path.{_≡_, refl, sym, ap, _∙_, subst}
 use mathlib.Core.Bool.{false}
 use Prim.Native.Nat.{ℕ, _+_, _*_, _/_, _%_, _^_, _<_}
