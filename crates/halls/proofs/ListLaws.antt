@@ -18,12 +18,12 @@ use Rattle.laws.proofs.Joins.{joined-snoc}
 use Rattle.streams.specs.Mix.{splitmixDrawOf}
 use Rattle.streams.proofs.StreamLaws.{new-word}
 use Rattle.streams.proofs.UnmixLaws.{draw-injective}
-use Rattle.composer.specs.Refusal.{Gives, Refuses}
+use Rattle.composer.specs.Refusal.{Gives}
 use Rattle.composer.specs.declared.refusal.Refusal.{Refusal}
-use Rattle.pages.specs.Answer.{Asked, Writes, Declines, bytesOf, writtenOf, bufferOf, writtenAnswered}
+use Rattle.pages.specs.Answer.{Asked, Writes, Declines, bytesOf, writtenOf, bufferOf, CallAnswers}
 use Rattle.pages.specs.Bytes.{be64}
 use Rattle.pages.specs.declared.answer.Written.{Written}
-use Rattle.pages.proofs.AnswerLaws.{refused, served, room-written, room-buffer}
+use Rattle.pages.proofs.AnswerLaws.{refused, served, call-answers, room-answers}
 use Rattle.pages.proofs.BytesLaws.{be64-injective}
 use Rattle.halls.specs.List.{listBytes, isOutside, listAsked, ListAnswers, slot, ListPromise}
 
@@ -98,7 +98,6 @@ above : (n : ℕ) → 4096 < n → isOutside n ≡ true
 above n l = rw (le-ltb n 1 (omega arith), lt-ltb 4096 n l)
 
 -- ---- a call: refused by its count, whatever the buffer; then by the buffer; else served
-
 module _ (h n : ℕ) (b : List ℕ) where
   pub list-outside : isOutside n ≡ true → (Written.Refused Refusal.HallCount ≡ writtenOf (length b) (listAsked h n)) × (b ≡ bufferOf b (listAsked h n))
   unfolding listAsked
@@ -113,30 +112,16 @@ module _ (h n : ℕ) (b : List ℕ) where
   unfolding listAsked
   list-served t w = rw t (served w)
 
-  outside-answers : isOutside n ≡ true → (writtenAnswered (writtenOf (length b) (listAsked h n)) ≡ Refuses 6) × (bufferOf b (listAsked h n) ≡ b)
-  outside-answers t =
-      let e = list-outside t in
-      (sym (ap writtenAnswered (e .0)), sym (e .1))
-
-  short-answers : isOutside n ≡ false → length b < 8 * n → (writtenAnswered (writtenOf (length b) (listAsked h n)) ≡ Refuses 2) × (bufferOf b (listAsked h n) ≡ b)
-  short-answers t l =
-      let e = list-short t l in
-      (sym (ap writtenAnswered (e .0)), sym (e .1))
-
-  room-answers : isOutside n ≡ false → 8 * n ≤ length b
-      → (writtenAnswered (writtenOf (length b) (listAsked h n)) ≡ Gives (8 * n)) × (bufferOf b (listAsked h n) ≡ listBytes h n ++ drop (8 * n) b)
+  list-written : isOutside n ≡ false → 8 * n ≤ length b → CallAnswers (listAsked h n) b (Gives (8 * n)) (listBytes h n ++ drop (8 * n) b)
   unfolding listAsked
-  room-answers t l =
-      let size = length-bytes h n in
-      let room : length (listBytes h n) ≤ length b = omega arith in
-      rw (t, room-written (listBytes h n) b room, room-buffer (listBytes h n) b room, size) (refl, refl)
+  list-written t l = rw (t, ← length-bytes h n) (room-answers (listBytes h n) b (omega (arith, length-bytes h n)))
 
   pub list-answers : ListAnswers h n b
   list-answers = record {
-    written = λ l k. room-answers (inside n l k);
-    short = λ l k. short-answers (inside n l k);
-    none = λ e. outside-answers (rw e refl);
-    many = λ l. outside-answers (above n l);
+    written = λ l k. list-written (inside n l k);
+    short = λ l k r. call-answers (listAsked h n) b (list-short (inside n l k) r);
+    none = λ e. call-answers (listAsked h n) b (list-outside (rw e refl));
+    many = λ l. call-answers (listAsked h n) b (list-outside (above n l));
   }
 
 -- the longest list

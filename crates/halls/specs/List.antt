@@ -11,7 +11,7 @@ use Rattle.streams.specs.Mix.{splitmixDrawOf}
 use Rattle.streams.specs.Stream.{newOf, wordAt}
 use Rattle.composer.specs.Refusal.{Gives, Refuses}
 use Rattle.composer.specs.declared.refusal.Refusal.{Refusal}
-use Rattle.pages.specs.Answer.{Asked, Writes, Declines, writtenOf, bufferOf, writtenAnswered}
+use Rattle.pages.specs.Answer.{Asked, Writes, Declines, CallAnswers}
 use Rattle.pages.specs.Bytes.{be64}
 
 -- seed i, for i from 1 to n, is draw i of the stream seeded with h; 8 bytes each
@@ -29,13 +29,12 @@ listAsked h n = cond (isOutside n) (Declines Refusal.HallCount) (Writes (listByt
 -- ---- what every call answers and leaves in the buffer b
 pub record ListAnswers (h n : ℕ) (b : List ℕ) : Type 0 where
   -- the list and what stood beyond it, its length the answer
-  pub written : 1 ≤ n → n ≤ 4096 → 8 * n ≤ length b
-      → (writtenAnswered (writtenOf (length b) (listAsked h n)) ≡ Gives (8 * n)) × (bufferOf b (listAsked h n) ≡ listBytes h n ++ drop (8 * n) b)
+  pub written : 1 ≤ n → n ≤ 4096 → 8 * n ≤ length b → CallAnswers (listAsked h n) b (Gives (8 * n)) (listBytes h n ++ drop (8 * n) b)
   -- a short buffer
-  pub short : 1 ≤ n → n ≤ 4096 → length b < 8 * n → (writtenAnswered (writtenOf (length b) (listAsked h n)) ≡ Refuses 2) × (bufferOf b (listAsked h n) ≡ b)
+  pub short : 1 ≤ n → n ≤ 4096 → length b < 8 * n → CallAnswers (listAsked h n) b (Refuses 2) b
   -- a count outside the range, whatever the buffer
-  pub none : n ≡ 0 → (writtenAnswered (writtenOf (length b) (listAsked h n)) ≡ Refuses 6) × (bufferOf b (listAsked h n) ≡ b)
-  pub many : 4096 < n → (writtenAnswered (writtenOf (length b) (listAsked h n)) ≡ Refuses 6) × (bufferOf b (listAsked h n) ≡ b)
+  pub none : n ≡ 0 → CallAnswers (listAsked h n) b (Refuses 6) b
+  pub many : 4096 < n → CallAnswers (listAsked h n) b (Refuses 6) b
 
 -- ---- what every list promises
 -- the 8 bytes in which seed k + 1 stands

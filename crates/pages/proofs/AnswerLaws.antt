@@ -1,6 +1,6 @@
--- A call that has bytes to write answers refusal 2 and writes nothing where the buffer is shorter, and else writes them,
--- whatever the buffer held; what stood beyond them stays. Assumes nothing.
-use mathlib.Core.Path.{_≡_, refl, sym, _∙_}
+-- A call that has bytes to write answers refusal 2 and writes nothing where the buffer is shorter. Else it writes them,
+-- whatever the buffer held, and what stood beyond them stays. Assumes nothing.
+use mathlib.Core.Path.{_≡_, refl, sym, ap, _∙_}
 use mathlib.Core.Bool.{Bool, true, false, cond}
 use mathlib.Core.List.{List, _++_}
 use Prim.Native.Nat.{ℕ, _≤_, _<_}
@@ -11,9 +11,10 @@ use lib.ListN.{length, take, drop}
 use lib.Seq.{take-append-seam, drop-append-seam}
 use Rattle.laws.specs.Writes.{Wrote}
 use Rattle.laws.proofs.Writes.{wrote-first}
+use Rattle.composer.specs.Refusal.{Gives}
 use Rattle.composer.specs.declared.refusal.Outcome.{Outcome}
 use Rattle.composer.specs.declared.refusal.Refusal.{Refusal}
-use Rattle.pages.specs.Answer.{Asked, Writes, Declines, bytesOf, askedBy, writtenOf, bufferOf}
+use Rattle.pages.specs.Answer.{Asked, Writes, Declines, bytesOf, askedBy, writtenOf, bufferOf, writtenAnswered, CallAnswers}
 use Rattle.pages.specs.declared.answer.Written.{Written}
 
 pub refused : (b bytes : List ℕ) → length b < length bytes → (Written.Refused Refusal.ShortBuffer ≡ writtenOf (length b) (Writes bytes)) × (b ≡ bufferOf b (Writes bytes))
@@ -28,12 +29,19 @@ served {b} {b′} {bytes} {r} {n} w =
     (rw (e, f .0), rw (e, f .1))
 
 -- ---- for readers
+-- what a contract says of a call, in document 01's words
+pub call-answers : (a : Asked) (b : List ℕ) {b′ : List ℕ} {w : Written} → (w ≡ writtenOf (length b) a) × (b′ ≡ bufferOf b a) → CallAnswers a b (writtenAnswered w) b′
+call-answers a b e = (sym (ap writtenAnswered (e .0)), sym (e .1))
+
 -- a buffer long enough gets the bytes
-pub room-written : (bytes b : List ℕ) → length bytes ≤ length b → writtenOf (length b) (Writes bytes) ≡ Written.Bytes (length bytes)
+room-written : (bytes b : List ℕ) → length bytes ≤ length b → writtenOf (length b) (Writes bytes) ≡ Written.Bytes (length bytes)
 room-written bytes b h = rw (le-ltb (length b) (length bytes) h)
 
-pub room-buffer : (bytes b : List ℕ) → length bytes ≤ length b → bufferOf b (Writes bytes) ≡ bytes ++ drop (length bytes) b
+room-buffer : (bytes b : List ℕ) → length bytes ≤ length b → bufferOf b (Writes bytes) ≡ bytes ++ drop (length bytes) b
 room-buffer bytes b h = rw (le-ltb (length b) (length bytes) h)
+
+pub room-answers : (bytes b : List ℕ) → length bytes ≤ length b → CallAnswers (Writes bytes) b (Gives (length bytes)) (bytes ++ drop (length bytes) b)
+room-answers bytes b h = (ap writtenAnswered (room-written bytes b h), room-buffer bytes b h)
 
 pub room-bytes : (bytes b : List ℕ) → length bytes ≤ length b → take (length bytes) (bufferOf b (Writes bytes)) ≡ bytes
 room-bytes bytes b h = rw (room-buffer bytes b h) (take-append-seam bytes (drop (length bytes) b))

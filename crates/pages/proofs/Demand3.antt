@@ -1,5 +1,6 @@
--- Demand 3 holds of every style and seed: a page is read back into its loop bar's own chord and events, those are what the
--- composer promises, and as each loop bar has hits and bass, the pages have what the form's bars play. Assumes nothing.
+-- Demand 3 holds of every style and seed: a page is read back into its loop bar's own chord and events, those are what
+-- the composer promises, and as each loop bar has hits and bass, the pages have what the form's bars play. Assumes
+-- nothing.
 use mathlib.Core.Path.{_≡_, refl, ap, _∙_, subst}
 use mathlib.Core.Bool.{Bool, true, false}
 use mathlib.Core.List.{List, [], _++_}
@@ -27,12 +28,12 @@ use Rattle.composer.specs.declared.style.Style.{Style}
 use Rattle.composer.proofs.ComposeLaws.{song-promise}
 use Rattle.composer.proofs.form.Arranged.{arranged-promise}
 use Rattle.composer.proofs.form.PromiseLaws.{promise-more}
-use Rattle.pages.specs.Answer.{Writes, bytesOf, writtenOf, bufferOf, writtenAnswered}
+use Rattle.pages.specs.Answer.{Writes, bytesOf, CallAnswers}
 use Rattle.pages.specs.Demand3.{bodyOf, has, IsNote, pageAt, bodyPage, Demand3}
 use Rattle.pages.specs.Lane.{eventsOf, drawnFor}
 use Rattle.pages.specs.Page.{loopBarOf, shown, pageBytes, pageAsked}
 use Rattle.pages.specs.declared.lane.Lane.{Lane}
-use Rattle.pages.proofs.AnswerLaws.{room-written, room-buffer}
+use Rattle.pages.proofs.AnswerLaws.{room-answers}
 use Rattle.pages.proofs.LaneLaws.{shown-size}
 use Rattle.pages.proofs.PageLaws.{composed-is, page-found}
 use Rattle.pages.proofs.ReadLaws.{chord-body, lead-body, hits-body, bass-body}
@@ -80,10 +81,10 @@ module _ (style : Style) (seed b : ℕ) (p : Plays) (plays : playsAt (arrangeOf 
 
   -- a buffer long enough
   page-written : (buf : List ℕ) → length page ≤ length buf
-      → (writtenAnswered (writtenOf (length buf) (pageAsked (styleNumberOf style) seed b)) ≡ Gives (length page)) × (bufferOf buf (pageAsked (styleNumberOf style) seed b) ≡ page ++ drop (length page) buf)
+      → CallAnswers (pageAsked (styleNumberOf style) seed b) buf (Gives (length page)) (page ++ drop (length page) buf)
   page-written buf h =
       let room : length (pageBytes s p bar) ≤ length buf = rw page-is at h in
-      rw page-asked (ap writtenAnswered (room-written (pageBytes s p bar) buf room), room-buffer (pageBytes s p bar) buf room)
+      rw page-asked (room-answers (pageBytes s p bar) buf room)
 
   -- what the bar plays, its page has
   chord-has : p .pad ≡ true → has 0x03 page ≡ true

@@ -1,4 +1,5 @@
 -- What a call has to write, and what of it is seen: the answer, and the buffer afterwards. Definitions only.
+use mathlib.Core.Path.{_≡_}
 use mathlib.Core.Bool.{cond}
 use mathlib.Core.List.{List, [], _++_}
 use Prim.Native.Nat.{ℕ}
@@ -37,3 +38,7 @@ bufferOf b (Declines r) = b
 abbrev pub writtenAnswered : Written → Answer ℕ
 writtenAnswered (Written.Bytes n) = Gives n
 writtenAnswered (Written.Refused r) = Refuses (numberOf r)
+
+-- lent the buffer b, the call answers x and leaves b′ there
+abbrev pub CallAnswers : Asked → List ℕ → Answer ℕ → List ℕ → Type 0
+CallAnswers a b x b′ = (writtenAnswered (writtenOf (length b) a) ≡ x) × (bufferOf b a ≡ b′)

@@ -17,7 +17,7 @@ use Rattle.composer.specs.Style.{styleNumberOf}
 use Rattle.composer.specs.declared.chord.Chord.{Chord}
 use Rattle.composer.specs.declared.compose.Composed.{Composed}
 use Rattle.composer.specs.declared.style.Style.{Style}
-use Rattle.pages.specs.Answer.{bytesOf, writtenOf, bufferOf, writtenAnswered}
+use Rattle.pages.specs.Answer.{bytesOf, CallAnswers}
 use Rattle.pages.specs.Page.{loopBarOf, pageAsked}
 
 -- ---- reading a page
@@ -59,11 +59,10 @@ bodyPage style seed b = pageAt style seed (introBarsOf (arrangeOf seed) + b)
 
 -- what a lead note and a bass note may be is the composer's `Sings` and `SoundsIn`
 pub record Demand3 (style : Style) (seed : ℕ) : Type 0 where
-  -- for every song bar, intro and outro included, bar page writes this page into a buffer long enough: by the
-  -- contract of `bar_page`, its answer is this `writtenOf` and the buffer afterwards this `bufferOf`
+  -- for every song bar, intro and outro included, bar page writes this page into a buffer long enough: `CallAnswers` is
+  -- about the `writtenOf` and the `bufferOf` of the contract of `bar_page`
   pub written : (b : ℕ) → b < arrangeOf seed .bars → (buf : List ℕ) → length (pageAt style seed b) ≤ length buf
-      → (writtenAnswered (writtenOf (length buf) (pageAsked (styleNumberOf style) seed b)) ≡ Gives (length (pageAt style seed b)))
-      × (bufferOf buf (pageAsked (styleNumberOf style) seed b) ≡ pageAt style seed b ++ drop (length (pageAt style seed b)) buf)
+      → CallAnswers (pageAsked (styleNumberOf style) seed b) buf (Gives (length (pageAt style seed b))) (pageAt style seed b ++ drop (length (pageAt style seed b)) buf)
   -- which pages of the body have chord, hits and bass; P is the number of phrases in the seed's form
   pub phrases : (4 ≤ arrangeOf seed .phrases) × (arrangeOf seed .phrases ≤ 6)
   pub body : BodyPromise (arrangeOf seed .phrases) (λ b. has 0x03 (bodyPage style seed b)) (λ b. has 0x07 (bodyPage style seed b)) (λ b. has 0x08 (bodyPage style seed b))
