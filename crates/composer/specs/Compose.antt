@@ -103,7 +103,7 @@ refusedOf r = record {
   counters = record { harmony = 0; tempo = 0; lead = 0; keys = 0; drums = 0; bass = 0; voice = 0 };
 }
 
--- asked of 0 and 1 alone
+-- of 0 and 1; who asks for another number refuses it
 abbrev pub styleBy : ℕ → Style
 styleBy n = cond (eqb n 0) Style.Hiphop Style.Sleep
 

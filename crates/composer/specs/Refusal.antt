@@ -11,6 +11,8 @@ numberOf Refusal.NoSuchBar = 3
 numberOf Refusal.Malformed = 4
 numberOf Refusal.WrongLength = 5
 numberOf Refusal.HallCount = 6
+numberOf Refusal.SheetFields = 7
+numberOf Refusal.SheetValues = 8
 
 pub data Answer (A : Type 0) : Type 0 where
   Gives : A → Answer A

@@ -87,7 +87,7 @@ fn composed_of(style: Style, seed: u64) -> Composed
 }
 
 // A score with no event.
-fn no_score() -> Score
+pub fn no_score() -> Score
     ensures { λ r. ⌜ r ≡ noScore ⌝ }
 {
     let bars = [NO_CHORD; 8];
@@ -137,7 +137,7 @@ fn refused(r: Refusal) -> Composed
     }
 }
 
-// The style by its number, 0 or 1; any other number gives sleep, and who asks has refused it before.
+// The style by its number, 0 or 1; any other number gives sleep, and who asks refuses it.
 pub fn style_by(number: u8) -> Style
     ensures { λ r. ⌜ r ≡ styleBy number ⌝ }
 {

@@ -2,8 +2,8 @@
 ghost use mathlib.Core.Path.{_≡_};
 ghost use Rattle.composer.specs.Note.{kindNumberOf};
 
-// Its pitch (MIDI), its time, in seconds into the loop, its velocity, and how long it is held, in seconds. The
-// bytes stand together, here and in `Hit`, so that an entry of a lane is small, and `spare`, which is always 0, fills
+// Its pitch (MIDI), its time, in seconds into the loop, its velocity, and how long it is held, in seconds. The bytes
+// stand together, here and in `Hit`, so that an entry of a lane is small, and `spare`, which is 0 in every song, fills
 // the gap behind them: an array of entries without gaps is cleared at one stroke.
 pub struct Note {
     pub bar: u8,

@@ -9,6 +9,8 @@ pub enum Refusal {
     Malformed,
     WrongLength,
     HallCount,
+    SheetFields,
+    SheetValues,
 }
 
 impl Refusal {
@@ -23,6 +25,8 @@ impl Refusal {
             Refusal::Malformed => 4,
             Refusal::WrongLength => 5,
             Refusal::HallCount => 6,
+            Refusal::SheetFields => 7,
+            Refusal::SheetValues => 8,
         }
     }
 }
