@@ -34,7 +34,7 @@ turned-bytes x y h e =
 pub size-back : (x : ℕ) → x / 256 * 256 + x % 256 ≡ x
 size-back x = omega arith
 
-four-back : (x : ℕ) → (x / 65536 / 256 * 256 + x / 65536 % 256) * 65536 + (x % 65536 / 256 * 256 + x % 65536 % 256) ≡ x
+pub four-back : (x : ℕ) → (x / 65536 / 256 * 256 + x / 65536 % 256) * 65536 + (x % 65536 / 256 * 256 + x % 65536 % 256) ≡ x
 four-back x = rw (size-back (x / 65536), size-back (x % 65536)) (omega arith)
 
 pub be64-back : (x : ℕ) (rest : List ℕ) → be64At (be64 x ++ rest) 0 ≡ x

@@ -1,6 +1,7 @@
 pub mod AnswerLaws
 pub mod BytesLaws
 pub mod Demand3
+pub mod FiniteLaws
 pub mod LaneLaws
 pub mod PageLaws
 pub mod ReadLaws

@@ -19,7 +19,7 @@ abbrev pub bytesOf : Asked → List ℕ
 bytesOf (Writes bytes) = bytes
 bytesOf (Declines r) = []
 
--- the first refusal is the composer's
+-- the first refusal is that of what was done before: composing, or reading
 abbrev pub askedBy : Outcome → Asked → Asked
 askedBy Outcome.Done a = a
 askedBy (Outcome.Refused r) a = Declines r

@@ -2,7 +2,7 @@
 use mathlib.Core.List.{List, [], _∷_, _++_}
 use Prim.Native.Nat.{ℕ, _+_, _*_, _/_, _%_}
 use lib.ListN.{length, getD}
-use lib.Ieee.{Float, binary32, toBits}
+use lib.Ieee.{Float, binary32, toBits, ofBits}
 
 abbrev pub be16 : ℕ → List ℕ
 be16 x = (x / 256) ∷ (x % 256) ∷ []
@@ -30,6 +30,9 @@ be64At bytes at = be32At bytes at * 4294967296 + be32At bytes (at + 4)
 -- an f32 as its bits
 abbrev pub f32Bytes : Float → List ℕ
 f32Bytes x = be32 (toBits binary32 x)
+
+abbrev pub f32At : List ℕ → ℕ → Float
+f32At bytes at = ofBits binary32 (be32At bytes at)
 
 -- a field is a one-byte tag, a two-byte length, a body
 abbrev pub head : ℕ → ℕ → List ℕ

@@ -219,7 +219,7 @@ pub fn put_sheet(buf: &mut [u8], seed: u64, s: Score, scale: Scale, f: Form) -> 
 }
 
 // The sheet of a song and its form, if the buffer is as long as this very sheet.
-fn sheet_into(seed: u64, s: Score, scale: Scale, f: Form, buf: &mut [u8]) -> Written
+pub fn sheet_into(seed: u64, s: Score, scale: Scale, f: Form, buf: &mut [u8]) -> Written
     requires { ⌜ Writable s ⌝ }
     requires { ⌜ Chorded s ⌝ }
     requires { ⌜ (scale .n ≤ 6) × (f .bars ≤ 64) ⌝ }

@@ -1,6 +1,11 @@
 -- Each answer is its case of the definition, by the lengths of the two slices. Assumes nothing.
-use mathlib.Core.Path.{sym, _∙_}
-use borrow.Author.Tests.{not-true, not-false}
+use mathlib.Core.Bool.{Bool, true, false, true≢false, _||_}
+use mathlib.Core.Path.{_≡_, refl, sym, _∙_}
+use Prim.Native.Nat.{ℕ, _≤_}
+use native.Mathlib.Omega.{arith}
+use borrow.Author.Tests.{eqb-true, not-true, not-false}
+use lib.Dec.{eqb}
+use lib.ListN.{length}
 use Rattle.composer.specs.declared.refusal.Refusal.{Refusal}
 use Rattle.pages.specs.Answer.{Declines}
 use Rattle.pages.specs.Sheet.{sheetAsked}
@@ -38,8 +43,20 @@ returns-2 c =
 style-in-requires : tie.Need-style-in-requires
 style-in-requires c κs = search needs
 
+-- a record has its seed's bytes
+seed-stands : (n : ℕ) → (eqb n 8 || eqb n 9) ≡ true → 8 ≤ n
+seed-stands n e = go (eqb n 8) (eqb n 9) refl refl e
+  where
+    go : (a b : Bool) → eqb n 8 ≡ a → eqb n 9 ≡ b → (a || b) ≡ true → 8 ≤ n
+    go true b p q e = omega (arith, eqb-true n 8 p)
+    go false true p q e = omega (arith, eqb-true n 9 q)
+    go false false p q e = absurd (true≢false (sym e))
+
 u64-at-requires : tie.Need-u64-at-requires
-u64-at-requires c κs = search needs
+u64-at-requires c κs =
+    let t = c .before in
+    let a = t .before .before .before .before .before .args in
+    seed-stands (length (a .input .now)) (sym (t .before .is-record .ensures) ∙ not-false (t .before .is-record .result) (t .if2 .left))
 
 sheet-requires : tie.Need-sheet-requires
 sheet-requires c κs = search needs
