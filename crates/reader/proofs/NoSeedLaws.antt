@@ -1,0 +1,57 @@
+-- A sheet with no hit is taken, and it is no seed's: every composed song has a hit in each loop bar. Assumes nothing.
+use mathlib.Core.Path.{_≡_, ap, _∙_}
+use mathlib.Core.List.{List}
+use Prim.Native.Nat.{ℕ, _*_, _<_}
+use native.Mathlib.Omega.{arith}
+use borrow.Author.Tests.{ltb-true}
+use lib.Dec.{T, ltb, lit<}
+use lib.Ieee.{toBits, ofBits}
+use Rattle.laws.specs.Lists.{allOf, joined}
+use Rattle.laws.proofs.Bools.{holds}
+use Rattle.laws.proofs.Lists.{all-at}
+use Rattle.composer.specs.declared.style.Style.{Style}
+use Rattle.composer.proofs.ComposeLaws.{song-promise}
+use Rattle.pages.specs.Bytes.{byteAt, field}
+use Rattle.pages.specs.Sheet.{songBytes, lanesBytes, formBytes, sheetBytes}
+use Rattle.reader.specs.Composed.{composedSong}
+use Rattle.reader.specs.Layout.{sizeAt}
+use Rattle.reader.specs.Promise.{NoSeed}
+use Rattle.reader.specs.Song.{sheetOf}
+use Rattle.reader.specs.declared.song.Song.{Song}
+use Rattle.reader.proofs.BlankLaws.{blankSong, blank-value}
+use Rattle.reader.proofs.ComposedLaws.{composed-value}
+use Rattle.reader.proofs.LengthLaws.{shortest, shortest-fits}
+use Rattle.reader.proofs.PromiseLaws.{sheet-back}
+use Rattle.reader.proofs.SongLaws.{as-fields, hits-size}
+use Rattle.reader.proofs.ValueLaws.{Value, value-valid, value-typed, value-stored}
+
+-- how many bytes of hits a value's sheet has
+hits-bytes : (v : Song) → Value v → sizeAt (sheetOf v) 6 ≡ 10 * v .score .«hit_count»
+hits-bytes v p = ap (λ (b : List ℕ). sizeAt b 6) (as-fields v) ∙ hits-size v (value-stored v p)
+
+-- a seed's has some
+seed-hits : (style : Style) (seed : ℕ) → 0 < sizeAt (sheetOf (composedSong style seed)) 6
+seed-hits style seed =
+    omega (arith, hits-bytes (composedSong style seed) (composed-value style seed), song-promise style seed .score .hit-in-each 0 (omega arith) .until)
+
+-- ---- the shortest song of zeros has none
+abbrev bare : Song
+bare = blankSong shortest
+
+bare-value : Value bare
+bare-value = blank-value shortest shortest-fits
+
+abbrev bytes : List ℕ
+bytes = sheetOf bare
+
+bytes-few : T (allOf (λ b. ltb b 256) bytes)
+unfolding allOf sheetBytes songBytes lanesBytes formBytes joined field ofBits toBits
+bytes-few = tt
+
+pub no-seed : NoSeed
+no-seed = record {
+  bytes = bytes;
+  octets = λ i. ltb-true (byteAt bytes i) 256 (holds (ltb (byteAt bytes i) 256) (all-at (λ b. ltb b 256) 0 tt bytes bytes-few i));
+  taken = record { v = bare; reads = sheet-back bare (value-typed bare bare-value (lit< tt)) (value-valid bare bare-value) };
+  other = λ style seed h e. omega (arith, seed-hits style seed, ap (λ (b : List ℕ). sizeAt b 6) e, hits-bytes bare bare-value);
+}

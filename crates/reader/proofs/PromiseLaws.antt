@@ -1,0 +1,133 @@
+-- What reading and writing promise each other, and what each call answers. Assumes nothing.
+use mathlib.Core.Path.{_≡_, refl, sym, ap, _∙_}
+use mathlib.Core.Bool.{true}
+use mathlib.Core.List.{List}
+use Prim.Native.Nat.{ℕ}
+use native.Mathlib.Omega.{arith}
+use Rattle.composer.specs.Refusal.{Answer, Gives, Refuses, answerBy}
+use Rattle.composer.specs.Style.{styleNumberOf}
+use Rattle.composer.specs.declared.refusal.Outcome.{Outcome}
+use Rattle.composer.specs.declared.style.Style.{Style}
+use Rattle.composer.proofs.ComposeLaws.{composed-done}
+use Rattle.pages.specs.Answer.{Asked, Writes, bytesOf, askedBy, CallAnswers}
+use Rattle.pages.specs.Sheet.{sheetAsked}
+use Rattle.pages.proofs.AnswerLaws.{refused, call-answers, room-answers}
+use Rattle.reader.specs.Codes.{coded}
+use Rattle.reader.specs.Composed.{composedSong}
+use Rattle.reader.specs.Layout.{formed}
+use Rattle.reader.specs.Promise.{Octets, Reads, Makes, ReaderPromise, ReadAnswers, WriteAnswers, RereadAnswers}
+use Rattle.reader.specs.Read.{readOf, readAnswered, writeAsked, rereadAsked}
+use Rattle.reader.specs.Song.{sheetOf}
+use Rattle.reader.specs.Value.{valid, Typed}
+use Rattle.reader.specs.Within.{within}
+use Rattle.reader.specs.declared.song.Song.{Song}
+use Rattle.reader.proofs.AgainLaws.{sheet-again}
+use Rattle.reader.proofs.ArrayLaws.{typed-read}
+use Rattle.reader.proofs.AskedLaws.{asked-valid, asked-other, Passes, passes, passes-read, read-song, read-valid}
+use Rattle.reader.proofs.ComposedLaws.{composed-valid, composed-typed}
+use Rattle.reader.proofs.FormedLaws.{sheet-formed, song-read}
+use Rattle.reader.proofs.KnownLaws.{sheet-coded}
+use Rattle.reader.proofs.TestedLaws.{valid-told, tested-value}
+use Rattle.reader.proofs.ValueLaws.{value-stored}
+
+-- ---- an answer that gives
+abbrev given : Answer Song → Song → Song
+given (Gives x) v = x
+given (Refuses n) v = v
+
+answered : (o : Outcome) (x v : Song) → answerBy o x ≡ Gives v → (o ≡ Outcome.Done) × (x ≡ v)
+answered Outcome.Done x v e = (refl, ap (λ (a : Answer Song). given a x) e)
+answered (Outcome.Refused r) x v e = let z : _≡_ {A = ℕ} 0 1 = cc in absurd (omega arith)
+
+pub reads-told : (bytes : List ℕ) (v : Song) → Reads bytes v → (readOf bytes .outcome ≡ Outcome.Done) × (readOf bytes .song ≡ v)
+reads-told bytes v e = answered (readOf bytes .outcome) (readOf bytes .song) v e
+
+-- ---- what is written and read
+sheet-passes : (v : Song) → Typed v → valid v ≡ true → Passes (sheetOf v)
+sheet-passes v t ok =
+    let p = tested-value v (t .shape) ok in
+    record { formed = sheet-formed v p; coded = sheet-coded v (value-stored v p); within = ap within (song-read v p) ∙ valid-told v ok .0 }
+
+pub sheet-back : (v : Song) → Typed v → valid v ≡ true → Reads (sheetOf v) v
+sheet-back v t ok =
+    ap readAnswered (passes-read (sheetOf v) (sheet-passes v t ok))
+    ∙ ap (λ (x : Song). Gives x) (song-read v (tested-value v (t .shape) ok))
+
+made-bytes : (v : Song) (bytes : List ℕ) → Makes v bytes → sheetOf v ≡ bytes
+made-bytes v bytes m = ap bytesOf (sym (asked-valid v (m .valid)) ∙ m .asked)
+
+back : (v : Song) (bytes : List ℕ) → Makes v bytes → Reads bytes v
+back v bytes m = rw (← made-bytes v bytes m) (sheet-back v (m .typed) (m .valid))
+
+-- ---- what is read and written again
+read-bytes : (bytes : List ℕ) → Octets bytes → readOf bytes .outcome ≡ Outcome.Done → sheetOf (readOf bytes .song) ≡ bytes
+read-bytes bytes octets done =
+    let p = passes bytes done in
+    ap sheetOf (read-song bytes done) ∙ sheet-again bytes octets (p .formed) (p .coded) (p .within)
+
+again : (v : Song) (bytes : List ℕ) → Octets bytes → Reads bytes v → Makes v bytes
+again v bytes octets e =
+    let t = reads-told bytes v e in
+    let ok = ap valid (sym (t .1)) ∙ read-valid bytes (t .0) in
+    record {
+      typed = rw (← t .1, read-song bytes (t .0)) (typed-read bytes (passes bytes (t .0) .formed) octets);
+      valid = ok;
+      asked = asked-valid v ok ∙ ap (λ (x : Song). Writes (sheetOf x)) (sym (t .1)) ∙ ap Writes (read-bytes bytes octets (t .0));
+    }
+
+-- ---- the sheets of seeds
+seed-asked : (style : Style) (seed : ℕ) → sheetAsked (styleNumberOf style) seed ≡ Writes (sheetOf (composedSong style seed))
+unfolding sheetAsked
+seed-asked Style.Hiphop seed = rw (composed-done Style.Hiphop seed)
+seed-asked Style.Sleep seed = rw (composed-done Style.Sleep seed)
+
+pub reader-promise : ReaderPromise
+reader-promise = record {
+  back = back;
+  again = again;
+  exactly = λ bytes octets. (
+    λ t. record { v = t .v; makes = again (t .v) bytes octets (t .reads) },
+    λ m. record { v = m .v; reads = back (m .v) bytes (m .makes) },
+  );
+  sheets = λ style seed h. (seed-asked style seed, sheet-back (composedSong style seed) (composed-typed style seed h) (composed-valid style seed));
+}
+
+-- ---- in numbers
+pub read-answers : (bytes : List ℕ) → ReadAnswers bytes
+unfolding readOf
+read-answers bytes = record {
+  fields = λ e. rw e;
+  values = λ e n. rw (e, n);
+  given = λ e y. rw (e, y);
+}
+
+pub write-answers : (v : Song) (b : List ℕ) → WriteAnswers v b
+write-answers v b = record {
+  other = λ e. rw (asked-other v e) (refl, refl);
+  short = λ e h. rw (asked-valid v e) (call-answers (Writes (sheetOf v)) b (refused b (sheetOf v) h));
+  written = λ e h. rw (asked-valid v e) (room-answers (sheetOf v) b h);
+}
+
+-- ---- read and written again
+reread-given : (v : Song) (bytes : List ℕ) → Octets bytes → Reads bytes v → rereadAsked bytes ≡ Writes bytes
+unfolding rereadAsked
+reread-given v bytes octets e =
+    let t = reads-told bytes v e in
+    rw (t .0) (asked-valid (readOf bytes .song) (read-valid bytes (t .0)) ∙ ap Writes (read-bytes bytes octets (t .0)))
+
+abbrev number : {A : Type 0} → Answer A → ℕ
+number (Gives x) = 0
+number (Refuses n) = n
+
+reread-refused : (o : Outcome) (x : Song) (a : Asked) (n : ℕ) (b : List ℕ) → answerBy o x ≡ Refuses n → CallAnswers (askedBy o a) b (Refuses n) b
+reread-refused Outcome.Done x a n b e = let z : _≡_ {A = ℕ} 0 1 = cc in absurd (omega arith)
+reread-refused (Outcome.Refused r) x a n b e = (ap (λ (y : Answer Song). Refuses (number y)) e, refl)
+
+pub reread-answers : (bytes b : List ℕ) → Octets bytes → RereadAnswers bytes b
+unfolding rereadAsked
+reread-answers bytes b octets = record {
+  fields = reread-refused (readOf bytes .outcome) (readOf bytes .song) (writeAsked (readOf bytes .song)) 7 b;
+  values = reread-refused (readOf bytes .outcome) (readOf bytes .song) (writeAsked (readOf bytes .song)) 8 b;
+  short = λ v e h. rw (reread-given v bytes octets e) (call-answers (Writes bytes) b (refused b bytes h));
+  written = λ v e h. rw (reread-given v bytes octets e) (room-answers bytes b h);
+}

@@ -1,0 +1,13 @@
+pub mod Cleared
+pub mod Codes
+pub mod Composed
+pub mod Fields
+pub mod Inner
+pub mod Layout
+pub mod Lengths
+pub mod Promise
+pub mod Read
+pub mod Song
+pub mod Tests
+pub mod Value
+pub mod Within
