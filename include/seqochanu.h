@@ -1,4 +1,5 @@
-/* The sheet and the bar page of a song, and the seeds of a hall's papers, as bytes in a buffer of the caller's.
+/* The sheet and the bar page of a song, sheets read back, and the seeds of a hall's papers, as bytes in a buffer of the
+ * caller's.
  *
  * A song is named by a style, 0 hiphop or 1 sleep, and a 64-bit seed, which is its paper number. A hall list is named
  * by a 64-bit hall number and a count of seeds. Each function answers how many bytes it wrote, from buf[0] on, or
@@ -8,14 +9,18 @@
  *   -2  the buffer is shorter than this very sheet, page or list
  *   -3  the song has no such bar
  *   -6  the count is outside 1 to 4,096
+ *   -7  a field of the sheet is missing, cut off, misplaced or trailing, or has a length that no sheet has there
+ *   -8  a value of the sheet is out of range, or its field 0x0A has another length than the song
  *
  * A refusal writes nothing; bytes beyond those written keep their values. No function keeps anything between calls,
- * so calls with different buffers may run at the same time. Nothing is allocated: a call works on its stack, and
- * bench/run prints how much of it is needed at most.
+ * so calls with different buffers may run at the same time, also where they read the same sheet. Nothing is allocated:
+ * a call works on its stack, and bench/run prints how much of it is needed at most.
  *
- * The caller ensures that buf points to len bytes that may be read and written and have been set, that nothing
- * else uses them during the call, and that buf is not NULL, also where len is 0. Nothing else is asked: every
- * style, seed, bar, hall number and count has an answer. */
+ * The caller ensures that buf points to len bytes that may be read and written and have been set, that nothing else
+ * uses them during the call, and that buf is not NULL, also where len is 0. Where a sheet is given, it points to
+ * sheet_len bytes that may be read and have been set, nothing changes them during the call, none of them is a byte of
+ * buf, and sheet is not NULL, also where sheet_len is 0. Nothing else is asked: every style, seed, bar, hall number
+ * and count has an answer, and so has every sheet, whatever its bytes and its length are. */
 #ifndef SEQOCHANU_H
 #define SEQOCHANU_H
 
@@ -42,6 +47,12 @@ int64_t seqochanu_bar_page(uint8_t style, uint64_t seed, uint64_t bar, uint8_t *
 /* Writes the first `count` seeds of a hall, each in 8 bytes, the highest first, and answers 8 * count; else -6, then
  * -2. No two seeds of a list are equal, and a longer list of the same hall starts with the shorter one. */
 int64_t seqochanu_hall_list(uint64_t hall, uint64_t count, uint8_t *buf, size_t len);
+
+/* Reads a sheet, writes what was read again and answers its length; else -7, then -8, then -2. What is written equals
+ * the sheet that was read, byte for byte. A fault in the fields anywhere comes before a bad value anywhere. Nothing is
+ * composed: a sheet may be read that no style and seed give. With a buffer of no bytes, -2 says that the bytes are a
+ * sheet. docs/FORMAT.md says which are. */
+int64_t seqochanu_reread(const uint8_t *sheet, size_t sheet_len, uint8_t *buf, size_t len);
 
 #ifdef __cplusplus
 }

@@ -1,5 +1,6 @@
 -- What is written is no longer than what was asked, and so no longer than a sheet, a page or a list can be.
 -- Assumes nothing.
+use mathlib.Core.List.{List}
 use Prim.Native.Nat.{ℕ, _^_, _≤_, _<_}
 use native.Mathlib.Omega.{arith}
 use lib.Dec.{ltb}
@@ -14,6 +15,8 @@ use Rattle.pages.specs.Sheet.{sheetAsked}
 use Rattle.pages.specs.declared.answer.Written.{Written}
 use Rattle.pages.proofs.PageLaws.{page-most}
 use Rattle.pages.proofs.SheetLaws.{sheet-most}
+use Rattle.reader.specs.Read.{rereadAsked}
+use Rattle.reader.proofs.MostLaws.{reread-most}
 use Rattle.seqochanu.specs.Code.{countOf}
 
 count-most : (room : ℕ) (a : Asked) → countOf (writtenOf room a) ≤ length (bytesOf a)
@@ -29,3 +32,6 @@ page-count room style seed b = omega (arith, count-most room (pageAsked style se
 
 pub list-count : (room hall n : ℕ) → countOf (writtenOf room (listAsked hall n)) < 2 ^ 63
 list-count room hall n = omega (arith, count-most room (listAsked hall n), list-most hall n)
+
+pub reread-count : (room : ℕ) (bytes : List ℕ) → countOf (writtenOf room (rereadAsked bytes)) < 2 ^ 63
+reread-count room bytes = omega (arith, count-most room (rereadAsked bytes), reread-most bytes)

@@ -1,4 +1,4 @@
-// The sheet, the bar page and the hall list for C (include/seqochanu.h).
+// The sheet, the bar page, the hall list and sheets read back, for C (include/seqochanu.h).
 ghost use mathlib.Core.Path.{_≡_};
 ghost use Prim.Native.Nat.{_^_, _<_};
 ghost use lib.ListN.{length};
@@ -6,11 +6,13 @@ ghost use Rattle.halls.specs.List.{listAsked};
 ghost use Rattle.pages.specs.Answer.{writtenOf, bufferOf};
 ghost use Rattle.pages.specs.Page.{pageAsked};
 ghost use Rattle.pages.specs.Sheet.{sheetAsked};
+ghost use Rattle.reader.specs.Read.{rereadAsked};
 ghost use Rattle.seqochanu.specs.Code.{codeOf, countOf};
 use halls::list::hall_list;
 use pages::answer::Written;
 use pages::page::bar_page;
 use pages::sheet::sheet;
+use reader::write::reread;
 
 // The length, or minus the refusal's number.
 fn code(w: Written) -> i64
@@ -53,5 +55,17 @@ pub extern "C" fn seqochanu_hall_list(hall: u64, count: u64, buf: &mut [u8]) -> 
     ensures { λ r. ⌜ now (buf .exit) ≡ bufferOf (now (buf .entry)) (listAsked hall count) ⌝ }
 {
     let w = hall_list(hall, count, buf);
+    code(w)
+}
+
+// Reads a sheet, writes what was read again from the buffer's first byte on and answers its length; what lies beyond
+// stays. What is written are the sheet's own bytes. Bytes that are not ten fields of a sheet are -7, only then values
+// out of range -8, then a buffer that is shorter than the sheet -2; none of them writes anything.
+#[no_mangle]
+pub extern "C" fn seqochanu_reread(sheet: &[u8], buf: &mut [u8]) -> i64
+    ensures { λ r. ⌜ r ≡ codeOf (writtenOf (length (now (buf .entry))) (rereadAsked (now (sheet .entry)))) ⌝ }
+    ensures { λ r. ⌜ now (buf .exit) ≡ bufferOf (now (buf .entry)) (rereadAsked (now (sheet .entry))) ⌝ }
+{
+    let w = reread(sheet, buf);
     code(w)
 }
