@@ -1,10 +1,18 @@
-//! Sheets and bar pages of songs, and lists of a hall's papers: a safe wrapper of include/seqochanu.h.
+//! Sheets and bar pages of songs, sheets read back, and lists of a hall's papers: a safe wrapper of
+//! include/seqochanu.h. What stands on a sheet is a `Sheet` (sheet.rs).
 //!
 //! The C functions ask that the buffer is not NULL, that its bytes are set and may be read and written, and that
-//! nothing else uses them during the call. A `&mut [u8]` is all of that, an empty one too, so nothing is left to check.
+//! nothing else uses them during the call. A `&mut [u8]` is all of that, an empty one too, and a `&[u8]` beside it is
+//! what they ask of a sheet that is read, so nothing is left to check.
 
 use std::error::Error;
 use std::fmt;
+
+// where this file is a module of a program, the path finds the other beside it, and the program may use a part of this
+#[path = "sheet.rs"]
+mod sheet;
+#[allow(unused_imports)]
+pub use sheet::{Drum, Ending, EndingKind, Form, Hit, Note, Plays, Sheet, Voice};
 
 /// The C functions as they are declared in include/seqochanu.h.
 pub mod raw {
@@ -13,6 +21,12 @@ pub mod raw {
         pub fn seqochanu_sheet(style: u8, seed: u64, buf: *mut u8, len: usize) -> i64;
         pub fn seqochanu_bar_page(style: u8, seed: u64, bar: u64, buf: *mut u8, len: usize) -> i64;
         pub fn seqochanu_hall_list(hall: u64, count: u64, buf: *mut u8, len: usize) -> i64;
+        pub fn seqochanu_reread(
+            sheet: *const u8,
+            sheet_len: usize,
+            buf: *mut u8,
+            len: usize,
+        ) -> i64;
     }
 }
 
@@ -50,6 +64,8 @@ pub enum Refusal {
     ShortBuffer = 2,
     NoSuchBar = 3,
     HallCount = 6,
+    SheetFields = 7,
+    SheetValues = 8,
 }
 
 impl fmt::Display for Refusal {
@@ -59,6 +75,13 @@ impl fmt::Display for Refusal {
             Self::ShortBuffer => "the buffer is shorter than this sheet, page or list",
             Self::NoSuchBar => "the song has no such bar",
             Self::HallCount => "the count is outside 1 to 4,096",
+            Self::SheetFields => {
+                "a field of the sheet is missing, cut off, misplaced or trailing, or has a length that no \
+                 sheet has there"
+            }
+            Self::SheetValues => {
+                "a value of the sheet is out of range, or its field 0x0A has another length than the song"
+            }
         })
     }
 }
@@ -72,6 +95,8 @@ fn written(answer: i64) -> Result<usize, Refusal> {
         -2 => Err(Refusal::ShortBuffer),
         -3 => Err(Refusal::NoSuchBar),
         -6 => Err(Refusal::HallCount),
+        -7 => Err(Refusal::SheetFields),
+        -8 => Err(Refusal::SheetValues),
         count => Ok(usize::try_from(count).expect("no refusal has another number")),
     }
 }
@@ -86,6 +111,13 @@ pub fn sheet(style: Style, seed: u64, buf: &mut [u8]) -> Result<usize, Refusal> 
 pub fn bar_page(style: Style, seed: u64, bar: u64, buf: &mut [u8]) -> Result<usize, Refusal> {
     let (bytes, len) = (buf.as_mut_ptr(), buf.len());
     written(unsafe { raw::seqochanu_bar_page(style as u8, seed, bar, bytes, len) })
+}
+
+/// Reads a sheet and writes what was read again, which equals the sheet; its length. A refusal leaves `buf` as it was.
+/// Nothing is composed: a sheet may be read that no seed gives. `Sheet::parse` says what stands on it.
+pub fn reread(sheet: &[u8], buf: &mut [u8]) -> Result<usize, Refusal> {
+    let (bytes, len) = (buf.as_mut_ptr(), buf.len());
+    written(unsafe { raw::seqochanu_reread(sheet.as_ptr(), sheet.len(), bytes, len) })
 }
 
 /// Writes the first `count` seeds of a hall, 8 bytes each; their length. A refusal leaves `buf` as it was.
@@ -138,7 +170,7 @@ mod tests {
         16408922859458223821,
     ];
 
-    fn songs() -> impl Iterator<Item = (Style, u64)> {
+    pub fn songs() -> impl Iterator<Item = (Style, u64)> {
         STYLES
             .into_iter()
             .flat_map(|style| SEEDS.map(|seed| (style, seed)))
@@ -151,7 +183,7 @@ mod tests {
     }
 
     /// A buffer with another byte than its neighbours at each place.
-    fn marked(len: usize) -> Vec<u8> {
+    pub fn marked(len: usize) -> Vec<u8> {
         (0..len).map(|i| 0x55 ^ i as u8).collect()
     }
 
@@ -308,9 +340,17 @@ mod tests {
 
     #[test]
     fn refusals_have_the_numbers_of_the_documents() {
-        use Refusal::{HallCount, NoSuchBar, ShortBuffer, UnknownStyle};
-        for refusal in [UnknownStyle, ShortBuffer, NoSuchBar, HallCount] {
-            assert_eq!(written(-(refusal as i64)), Err(refusal));
+        let refusals = [
+            (1, Refusal::UnknownStyle),
+            (2, Refusal::ShortBuffer),
+            (3, Refusal::NoSuchBar),
+            (6, Refusal::HallCount),
+            (7, Refusal::SheetFields),
+            (8, Refusal::SheetValues),
+        ];
+        for (number, refusal) in refusals {
+            assert_eq!(refusal as i64, number);
+            assert_eq!(written(-number), Err(refusal));
         }
         assert_eq!(written(17), Ok(17));
     }

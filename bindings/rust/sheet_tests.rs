@@ -1,0 +1,399 @@
+//! Sheets read back: songs' own, sheets made by hand, and bytes that are none.
+
+use super::super::tests::{marked, songs};
+use super::super::{raw, sheet_vec};
+use super::*;
+
+const SILENT: Plays = Plays {
+    pad: false,
+    keys: false,
+    drums: false,
+    bass: false,
+};
+
+const COLD: Ending = Ending {
+    kind: EndingKind::Cold,
+    bars: 0,
+};
+
+const NOTE: Note = Note {
+    bar: 7,
+    time: f32::MAX,
+    midi: 127,
+    velocity: -0.0,
+    duration: f32::MIN_POSITIVE / 2.0,
+};
+
+const HIT: Hit = Hit {
+    bar: 7,
+    kind: Drum::OpenHat,
+    time: -1.5,
+    gain: f32::MIN,
+};
+
+/// The shortest sheet: no events, and the fewest bars.
+fn bare() -> Sheet {
+    Sheet {
+        style: Style::Hiphop,
+        seed: 0,
+        voice: Voice::EpVel,
+        tempo: -0.0,
+        chords: [[0; 4]; 8],
+        scale: vec![0; 5],
+        lead: vec![],
+        keys: vec![],
+        hits: vec![],
+        bass: vec![],
+        form: Form {
+            intro: COLD,
+            phrases: 4,
+            outro: COLD,
+            dip: false,
+            bars: vec![SILENT; 32],
+        },
+    }
+}
+
+/// The longest sheet: as many events and bars as there may be, the greatest numbers.
+fn full() -> Sheet {
+    let long = Ending {
+        kind: EndingKind::Filter,
+        bars: 8,
+    };
+    Sheet {
+        style: Style::Sleep,
+        seed: u64::MAX,
+        voice: Voice::Vibraphone,
+        tempo: f32::MAX,
+        chords: [[127; 4]; 8],
+        scale: vec![11; 6],
+        lead: vec![NOTE; 56],
+        keys: vec![NOTE; 128],
+        hits: vec![HIT; 98],
+        bass: vec![NOTE; 104],
+        form: Form {
+            intro: long,
+            phrases: 6,
+            outro: long,
+            dip: true,
+            bars: vec![Plays::by(15); 64],
+        },
+    }
+}
+
+/// A bare sheet of this form, with the bars that its parts make.
+fn formed(intro: Ending, phrases: u8, outro: Ending) -> Sheet {
+    let bars = usize::from(intro.bars + 8 * phrases + outro.bars);
+    let mut sheet = bare();
+    sheet.form = Form {
+        intro,
+        phrases,
+        outro,
+        dip: true,
+        bars: (0..bars).map(|bar| Plays::by(bar as u8 % 16)).collect(),
+    };
+    sheet
+}
+
+/// Each ending that an intro or an outro may have; the last is an outro's alone.
+fn endings() -> Vec<Ending> {
+    let kinds = [EndingKind::Plain, EndingKind::Fade, EndingKind::Filter];
+    let long = kinds.map(|kind| [4, 8].map(|bars| Ending { kind, bars }));
+    let rings_out = Ending {
+        kind: EndingKind::RingsOut,
+        bars: 2,
+    };
+    [&[COLD], long.as_flattened(), &[rings_out]].concat()
+}
+
+/// The bytes of `sheet` with one of them changed.
+fn with(sheet: &Sheet, place: usize, byte: u8) -> Vec<u8> {
+    let mut bytes = sheet.laid_out();
+    bytes[place] = byte;
+    bytes
+}
+
+/// These bytes are refused so, whatever the buffer, which keeps its own.
+fn refused(bytes: &[u8], refusal: Refusal) {
+    for room in [0, bytes.len().saturating_sub(1), bytes.len(), SHEET_MOST] {
+        let mut buf = marked(room);
+        assert_eq!(reread(bytes, &mut buf), Err(refusal), "{bytes:?}");
+        assert_eq!(buf, marked(room));
+    }
+    assert_eq!(Sheet::parse(bytes), Err(refusal));
+}
+
+/// A bare sheet with this change is refused so, and gives no bytes.
+fn refused_with(refusal: Refusal, change: impl FnOnce(&mut Sheet)) {
+    let mut sheet = bare();
+    change(&mut sheet);
+    assert_eq!(sheet.to_bytes(), Err(refusal), "{sheet:?}");
+    refused(&sheet.laid_out(), refusal);
+}
+
+#[test]
+fn the_sheet_of_a_song_is_read_and_laid_out_again() {
+    let more = (0..100).flat_map(|seed| [(Style::Hiphop, seed), (Style::Sleep, seed)]);
+    for (style, seed) in songs().chain(more) {
+        let bytes = sheet_vec(style, seed);
+        let sheet = Sheet::parse(&bytes).unwrap();
+        assert_eq!((sheet.style, sheet.seed), (style, seed));
+        assert_eq!(sheet.to_bytes(), Ok(bytes));
+    }
+}
+
+#[test]
+fn what_is_read_is_what_the_format_says() {
+    // the sheet that docs/FORMAT.md takes apart
+    let sheet = Sheet::parse(&sheet_vec(Style::Sleep, 2350)).unwrap();
+    assert_eq!(sheet.voice, Voice::EpVel);
+    assert_eq!(sheet.tempo, 76.0);
+    assert_eq!(sheet.chords[1], [50, 53, 57, 60]);
+    assert_eq!(sheet.scale, [10, 0, 2, 5, 7, 9]);
+    assert_eq!((sheet.lead.len(), sheet.keys.len()), (4, 5));
+    assert_eq!((sheet.hits.len(), sheet.bass.len()), (50, 18));
+    let lead = Note {
+        bar: 1,
+        time: f32::from_bits(0x408b4902),
+        midi: 79,
+        velocity: f32::from_bits(0x3e7d7a94),
+        duration: 2.2,
+    };
+    assert_eq!(sheet.lead[1], lead);
+    let snare = Hit {
+        bar: 0,
+        kind: Drum::Snare,
+        time: f32::from_bits(0x3f4ce9de),
+        gain: f32::from_bits(0x3ecb186f),
+    };
+    assert_eq!(sheet.hits[2], snare);
+    assert_eq!((sheet.keys[0].midi, sheet.bass[0].midi), (48, 39));
+    let form = &sheet.form;
+    assert_eq!((form.intro.kind, form.intro.bars), (EndingKind::Fade, 4));
+    assert_eq!((form.phrases, form.dip), (4, false));
+    assert_eq!(
+        (form.outro.kind, form.outro.bars),
+        (EndingKind::RingsOut, 2)
+    );
+    assert_eq!(form.bars.len(), 38);
+    let no_bass = Plays {
+        pad: true,
+        keys: true,
+        drums: true,
+        bass: false,
+    };
+    assert_eq!(form.bars[24], no_bass);
+    let pad = Plays {
+        pad: true,
+        ..SILENT
+    };
+    assert_eq!(form.bars[36..], [pad, SILENT]);
+}
+
+#[test]
+fn a_sheet_made_by_hand_is_laid_out_and_read() {
+    let mut sheets = vec![bare(), full()];
+    for phrases in 4..=6 {
+        for outro in endings() {
+            for intro in endings() {
+                if intro.kind != EndingKind::RingsOut {
+                    sheets.push(formed(intro, phrases, outro));
+                }
+            }
+        }
+    }
+    for (voice, kind) in VOICES.into_iter().zip(DRUMS) {
+        // a style's songs have some of the voices, its sheets may have any
+        for style in [Style::Hiphop, Style::Sleep] {
+            let hits = vec![Hit { kind, ..HIT }];
+            sheets.push(Sheet {
+                style,
+                voice,
+                hits,
+                ..bare()
+            });
+        }
+    }
+    // what no song has: bars that fall along a lane, and a note twice
+    let lead = vec![NOTE, Note { bar: 0, ..NOTE }, NOTE, NOTE];
+    sheets.push(Sheet { lead, ..bare() });
+    for sheet in sheets {
+        let bytes = sheet.to_bytes().unwrap();
+        let read = Sheet::parse(&bytes).unwrap();
+        assert_eq!(read, sheet);
+        // equal to the last bit, for which `==` does not look
+        assert_eq!(read.laid_out(), bytes);
+    }
+    assert_eq!(bare().to_bytes().unwrap().len(), 119);
+    assert_eq!(full().to_bytes().unwrap().len(), SHEET_MOST);
+}
+
+#[test]
+fn a_negative_zero_stays_one() {
+    let sheet = Sheet::parse(&bare().to_bytes().unwrap()).unwrap();
+    assert_eq!(sheet.tempo.to_bits(), 0x8000_0000);
+    let zero = Sheet {
+        tempo: 0.0,
+        ..bare()
+    };
+    assert_eq!(zero, bare());
+    assert_ne!(zero.to_bytes(), bare().to_bytes());
+}
+
+#[test]
+fn a_sheet_is_written_into_every_buffer_with_room() {
+    let songs = songs().map(|(style, seed)| sheet_vec(style, seed));
+    for bytes in songs.chain([bare().laid_out(), full().laid_out()]) {
+        let len = bytes.len();
+        for room in [len, len + 1, SHEET_MOST + 9] {
+            let mut buf = marked(room);
+            assert_eq!(reread(&bytes, &mut buf), Ok(len));
+            assert_eq!(buf[..len], bytes);
+            assert_eq!(buf[len..], marked(room)[len..]);
+        }
+        for room in [len - 1, 1, 0] {
+            let mut buf = marked(room);
+            assert_eq!(reread(&bytes, &mut buf), Err(Refusal::ShortBuffer));
+            assert_eq!(buf, marked(room));
+        }
+    }
+}
+
+#[test]
+fn a_fault_in_the_fields_is_refused() {
+    let bytes = bare().laid_out();
+    for len in 0..bytes.len() {
+        refused(&bytes[..len], Refusal::SheetFields);
+    }
+    for more in [1, 3, 119, 5164, 70000] {
+        refused(&[&bytes[..], &vec![0; more]].concat(), Refusal::SheetFields);
+    }
+    // where the ten heads stand in a bare sheet; a tag or a length that is another's, by each bit
+    for place in [0, 13, 20, 55, 63, 66, 69, 72, 75, 84] {
+        for head in [place, place + 1, place + 2] {
+            for bit in 0..8 {
+                let bytes = with(&bare(), head, bytes[head] ^ 1 << bit);
+                refused(&bytes, Refusal::SheetFields);
+            }
+        }
+    }
+    let (keys, hits) = (&bytes[66..69], &bytes[69..72]);
+    let swapped = [&bytes[..66], hits, keys, &bytes[72..]].concat();
+    refused(&swapped, Refusal::SheetFields);
+    let missing = [&bytes[..69], &bytes[72..]].concat();
+    refused(&missing, Refusal::SheetFields);
+    let doubled = [&bytes[..69], keys, &bytes[69..]].concat();
+    refused(&doubled, Refusal::SheetFields);
+}
+
+#[test]
+fn a_list_of_a_length_that_no_sheet_has_is_refused() {
+    let fields = Refusal::SheetFields;
+    // 65,541 is 5 modulo 2^16, and so are 32,768 notes 0 bytes
+    for entries in [0, 4, 7, 65_541] {
+        refused_with(fields, |s| s.scale = vec![0; entries]);
+    }
+    refused_with(fields, |s| s.lead = vec![NOTE; 57]);
+    refused_with(fields, |s| s.lead = vec![NOTE; 32_768]);
+    refused_with(fields, |s| s.keys = vec![NOTE; 129]);
+    refused_with(fields, |s| s.hits = vec![HIT; 99]);
+    refused_with(fields, |s| s.bass = vec![NOTE; 105]);
+    for bars in [0, 31, 33, 62, 63, 66, 65_568] {
+        refused_with(fields, |s| s.form.bars = vec![SILENT; bars]);
+    }
+}
+
+#[test]
+fn a_value_out_of_range_is_refused() {
+    let values = Refusal::SheetValues;
+    for odd in [f32::NAN, f32::INFINITY, f32::NEG_INFINITY] {
+        refused_with(values, |s| s.tempo = odd);
+        refused_with(values, |s| s.lead = vec![Note { time: odd, ..NOTE }]);
+        let velocity = odd;
+        refused_with(values, |s| s.keys = vec![Note { velocity, ..NOTE }]);
+        let duration = odd;
+        refused_with(values, |s| s.bass = vec![NOTE, Note { duration, ..NOTE }]);
+        refused_with(values, |s| s.hits = vec![Hit { time: odd, ..HIT }]);
+        refused_with(values, |s| s.hits = vec![HIT, Hit { gain: odd, ..HIT }]);
+    }
+    refused_with(values, |s| s.chords[7][3] = 128);
+    refused_with(values, |s| s.scale[4] = 12);
+    refused_with(values, |s| s.scale.push(12));
+    refused_with(values, |s| s.lead = vec![Note { bar: 8, ..NOTE }]);
+    refused_with(values, |s| s.bass = vec![Note { midi: 128, ..NOTE }]);
+    refused_with(values, |s| s.hits = vec![Hit { bar: 8, ..HIT }]);
+    // codes that the types here have not: style, voice, a hit's kind, endings, dip, a bar's plays
+    let hit = Sheet {
+        hits: vec![HIT],
+        ..bare()
+    };
+    refused(&with(&hit, 73, 4), values);
+    let codes = [
+        (3, 2),
+        (12, 4),
+        (78, 5),
+        (81, 5),
+        (83, 2),
+        (87, 16),
+        (118, 255),
+    ];
+    for (place, code) in codes {
+        refused(&with(&bare(), place, code), values);
+    }
+}
+
+#[test]
+fn bars_that_the_form_does_not_make_are_refused() {
+    let values = Refusal::SheetValues;
+    refused_with(values, |s| s.form.bars = vec![SILENT; 40]);
+    refused_with(values, |s| s.form.phrases = 5);
+    // as many bars as some song has, but of other phrases
+    let fade = Ending {
+        kind: EndingKind::Fade,
+        bars: 8,
+    };
+    for sheet in [formed(fade, 3, fade), formed(COLD, 7, fade)] {
+        assert_eq!(sheet.to_bytes(), Err(values));
+    }
+    for kind in ENDINGS {
+        for bars in [0, 1, 2, 4, 6, 8] {
+            let ending = Ending { kind, bars };
+            let fits = endings().contains(&ending);
+            if !fits {
+                let mut sheet = formed(COLD, 4, ending);
+                // an odd number of bars would be a fault in the fields
+                sheet.form.bars.resize(32 + usize::from(bars & !1), SILENT);
+                refused(&sheet.laid_out(), values);
+            }
+            if !fits || kind == EndingKind::RingsOut {
+                let mut sheet = formed(ending, 4, COLD);
+                sheet.form.bars.resize(32 + usize::from(bars & !1), SILENT);
+                assert_eq!(sheet.to_bytes(), Err(values));
+            }
+        }
+    }
+}
+
+#[test]
+fn a_fault_in_the_fields_comes_before_a_value_and_that_before_a_short_buffer() {
+    // the first value is bad and the last byte is cut off, or one follows it
+    let mut bytes = with(&bare(), 3, 2);
+    refused(&bytes, Refusal::SheetValues);
+    refused(&bytes[..118], Refusal::SheetFields);
+    bytes.push(0);
+    refused(&bytes, Refusal::SheetFields);
+}
+
+#[test]
+fn the_c_function_has_the_numbers_of_the_documents() {
+    let mut buf = marked(SHEET_MOST);
+    let mut answer = |sheet: &[u8], len: usize| unsafe {
+        raw::seqochanu_reread(sheet.as_ptr(), sheet.len(), buf.as_mut_ptr(), len)
+    };
+    let bytes = bare().laid_out();
+    assert_eq!(answer(&[], 0), -7);
+    assert_eq!(answer(&bytes[..118], 118), -7);
+    assert_eq!(answer(&with(&bare(), 3, 2), 119), -8);
+    assert_eq!(answer(&bytes, 118), -2);
+    assert_eq!(answer(&bytes, 119), 119);
+}
