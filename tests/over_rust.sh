@@ -18,7 +18,8 @@ find_rust() {
 # module line behind it reaches what is private there.
 lay_rust() {
     mkdir -p "$1/compose"
-    cp -r tests/differential/src/reach tests/differential/src/synth.rs bindings/rust/seqochanu.rs "$1"
+    cp -r tests/differential/src/reach tests/differential/src/synth.rs "$1"
+    cp bindings/rust/seqochanu.rs bindings/rust/sheet.rs "$1"
     for file in dsp compose compose/form style; do
         cat "$rust/src/$file.rs" >"$1/$file.rs"
     done

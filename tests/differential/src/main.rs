@@ -29,6 +29,7 @@ mod ours;
 mod pages;
 mod program;
 mod record;
+mod reread;
 mod sample;
 mod scores;
 mod songs;
@@ -53,10 +54,12 @@ fn compare(from: u64, to: u64) -> Tally {
         scores::compare_seed(&mut tally, seed);
         pages::compare_seed(&mut tally, seed);
         halls::compare_seed(&mut tally, seed);
+        reread::compare_seed(&mut tally, seed);
         if i % 15 == 0 {
             made::compare_seed(&mut tally, seed);
             hits::compare_seed(&mut tally, seed);
             halls::compare_longest(&mut tally, seed);
+            reread::compare_made(&mut tally, seed);
         }
     }
     tally
@@ -95,6 +98,7 @@ fn main() {
     hits::compare_edges(&mut edges);
     pages::compare_edges(&mut edges);
     halls::compare_edges(&mut edges);
+    reread::compare_edges(&mut edges);
     program::paper::compare_edges(&mut edges, paper);
     program::hall::compare_edges(&mut edges, hall);
     let all = edges.join(compare_all(start, count));

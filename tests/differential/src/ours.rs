@@ -2,7 +2,9 @@
 //! wrappers. A slice passes as a pointer and a length; no function asks more of its caller.
 
 use crate::compose::reach::form::Parts;
-use crate::seqochanu::raw::{seqochanu_bar_page, seqochanu_hall_list, seqochanu_sheet};
+use crate::seqochanu::raw::{
+    seqochanu_bar_page, seqochanu_hall_list, seqochanu_reread, seqochanu_sheet,
+};
 
 mod raw {
     unsafe extern "C" {
@@ -137,4 +139,9 @@ pub fn bar_page(style: u8, seed: u64, bar: u64, buf: &mut [u8]) -> i64 {
 
 pub fn hall_list(hall: u64, count: u64, buf: &mut [u8]) -> i64 {
     unsafe { seqochanu_hall_list(hall, count, buf.as_mut_ptr(), buf.len()) }
+}
+
+pub fn reread(sheet: &[u8], buf: &mut [u8]) -> i64 {
+    let (read, count) = (sheet.as_ptr(), sheet.len());
+    unsafe { seqochanu_reread(read, count, buf.as_mut_ptr(), buf.len()) }
 }

@@ -8,6 +8,7 @@ use crate::compose::{Form, arrange};
 use crate::draws::stream_with;
 use crate::dsp::reach::{next_u64, seed_of, stream};
 use crate::halls::{HALLS, LIST_MOST, list};
+use crate::reread::judge::judge;
 use crate::scores::unbeaten;
 use crate::words::{kick_words, words_of};
 use crate::{forms, sample, songs};
@@ -129,6 +130,50 @@ fn hall_lines(lines: &mut Vec<Line>, hall: u64) {
     }
 }
 
+/// How a sheet is spoiled, in one word: its style, a byte put at a place, and how many bytes are kept.
+fn spoiled(style: u8, place: Option<(usize, u8)>, kept: usize) -> u64 {
+    let (place, byte) = place.map_or((0, 0), |(place, byte)| (place as u64 + 1, byte));
+    u64::from(style) | u64::from(byte) << 8 | place << 16 | (65535 - kept.min(65535) as u64) << 32
+}
+
+/// R: a fold of what is read of the sheet of the song seed a, spoiled as b tells, and written again, or document 02's
+/// refusal: the whole sheet; the sheet cut off; one byte of it changed, in every head and in the first two bytes and
+/// the last of each body; and a bad style in a sheet that is cut off.
+fn reread_lines(lines: &mut Vec<Line>, seed: u64) {
+    let form = arrange(seed);
+    for style in 0..2 {
+        let sheet = sheet(style, seed, &take(STYLES[usize::from(style)], seed), &form);
+        let whole = 65535;
+        let mut ask = |place: Option<(usize, u8)>, kept: usize| {
+            let mut bytes = sheet.clone();
+            if let Some((place, byte)) = place {
+                bytes[place] = byte;
+            }
+            bytes.truncate(kept);
+            let answer = match judge(&bytes) {
+                Ok(()) => byte_fold(&bytes, SHEET_MOST),
+                Err(number) => number as u64,
+            };
+            lines.push(('R', seed, spoiled(style, place, kept), answer));
+        };
+        ask(None, whole);
+        for kept in [0, 1, 12, sheet.len() - 1] {
+            ask(None, kept);
+        }
+        let mut at = 0;
+        while at < sheet.len() {
+            let size = usize::from(sheet[at + 1]) * 256 + usize::from(sheet[at + 2]);
+            for place in [at, at + 1, at + 2, at + 3, at + 4, at + 2 + size] {
+                for byte in [0, 7, 0x7f, 0xff] {
+                    ask(Some((place, byte)), whole);
+                }
+            }
+            at += 3 + size;
+        }
+        ask(Some((3, 2)), sheet.len() - 1);
+    }
+}
+
 fn write_lines(folder: &str, name: &str, lines: &[Line]) {
     let text: String = (lines.iter())
         .map(|(what, a, b, answer)| format!("{what} {a:016x} {b:016x} {answer:016x}\n"))
@@ -160,4 +205,9 @@ pub fn write(folder: &str) {
         hall_lines(&mut halls, hall);
     }
     write_lines(folder, "halls", &halls);
+    let mut sheets = Vec::new();
+    for seed in [0, 389_849, u64::MAX] {
+        reread_lines(&mut sheets, seed);
+    }
+    write_lines(folder, "sheets", &sheets);
 }

@@ -1,0 +1,131 @@
+//! Sheets read and written again: the answer, every byte written, and every byte that must stay. What is written is
+//! what was read, byte for byte; which bytes are a sheet says the driver's own reader.
+
+mod by_hand;
+mod edges;
+mod faults;
+pub mod judge;
+mod sheets;
+
+use crate::bytes::{SHEET_MOST, sheet_of};
+use crate::calls::compare_call;
+use crate::tally::Tally;
+use crate::{ours, songs};
+use faults::{Fault, faulty, structure_faults, value_faults};
+use judge::judge;
+use sheets::{COUNTS_MOST, Draws, Sheet};
+
+/// Bytes read and written again into a buffer of `len` places.
+fn compare_judged(tally: &mut Tally, what: impl Fn() -> String, bytes: &[u8], len: usize) {
+    let asked = judge(bytes).map(|()| bytes);
+    let what = || format!("{}, read back", what());
+    compare_call(tally, what, asked, len, |buf| ours::reread(bytes, buf));
+}
+
+/// A sheet, into buffers with room to spare, just as long and a byte short.
+fn compare_sound(tally: &mut Tally, what: impl Fn() -> String + Copy, sheet: &[u8]) {
+    assert_eq!(judge(sheet), Ok(()), "{} is a sheet", what());
+    let n = sheet.len();
+    for len in [n + 40, n, n - 1] {
+        compare_judged(tally, what, sheet, len);
+    }
+}
+
+/// Bytes that are refused by this number, into a buffer of as many places and into one of none: the refusal comes
+/// before that of a short buffer.
+fn compare_refused(tally: &mut Tally, what: impl Fn() -> String + Copy, bytes: &[u8], number: i64) {
+    assert_eq!(judge(bytes), Err(number), "{}", what());
+    for len in [bytes.len().min(SHEET_MOST), 0] {
+        compare_judged(tally, what, bytes, len);
+    }
+}
+
+/// A sheet with one fault.
+fn compare_fault(tally: &mut Tally, sheet: &Sheet, fault: &Fault) {
+    let what = || format!("{fault:?} in {:x?}", sheet.bytes());
+    compare_refused(tally, what, &faulty(sheet, &[fault]), fault.number());
+}
+
+/// A sheet with two faults: 7 if either is of the fields, wherever the two stand.
+fn compare_faults(tally: &mut Tally, sheet: &Sheet, two: [&Fault; 2]) {
+    let bytes = faulty(sheet, &two);
+    let what = || format!("{two:?} in {:x?}", sheet.bytes());
+    // 7 comes before 8
+    let number = two[0].number().min(two[1].number());
+    // two may undo each other, as a length that is one more and then one less
+    if bytes != sheet.bytes() {
+        compare_refused(tally, what, &bytes, number);
+    }
+}
+
+/// One byte of a sheet changed, or one more, or one less: which, the draws decide. Every other time it is one of the
+/// first or of the last bytes, since most of the others are those of numbers, where nearly all is in range.
+fn flipped(draws: &mut Draws, sheet: &[u8]) -> Vec<u8> {
+    let (mut bytes, n) = (sheet.to_vec(), sheet.len());
+    let at = match draws.below(4) {
+        0 => draws.below(70),
+        1 => n - 1 - draws.below(80),
+        _ => draws.below(n),
+    };
+    let byte = draws.below(256) as u8;
+    match draws.below(8) {
+        0 => bytes.insert(at, byte),
+        1 => drop(bytes.remove(at)),
+        2 | 3 => bytes[at] = byte,
+        _ => bytes[at] ^= 1 << (byte % 8),
+    }
+    bytes
+}
+
+/// Of one seed the sheets of its songs, and some of them with a byte changed.
+pub fn compare_seed(tally: &mut Tally, seed: u64) {
+    let draws = &mut Draws::of(seed);
+    for style in [0, 1] {
+        let sheet = sheet_of(style, seed);
+        let what = || format!("the sheet of {seed:#x} in style {style}");
+        compare_sound(tally, what, &sheet);
+        for _ in 0..3 {
+            let bytes = flipped(draws, &sheet);
+            let what = || format!("{}, now {bytes:x?}", what());
+            compare_judged(tally, what, &bytes, SHEET_MOST);
+        }
+    }
+}
+
+/// How many faults of values and of fields are tried in a made sheet, each alone and both at once.
+const FAULTS: usize = 24;
+
+/// Some of the faults that a sheet can have.
+fn compare_some(tally: &mut Tally, draws: &mut Draws, sheet: &Sheet) {
+    let (values, structure) = (value_faults(sheet), structure_faults(sheet));
+    for _ in 0..FAULTS {
+        let (a, b) = (draws.one_of(&values), draws.one_of(&structure));
+        compare_fault(tally, sheet, a);
+        compare_fault(tally, sheet, b);
+        compare_faults(tally, sheet, [a, b]);
+    }
+}
+
+/// Of one seed sheets that it makes: with lanes of any length, with full ones, with empty ones, and with a few events,
+/// which last one also gets faults.
+pub fn compare_made(tally: &mut Tally, seed: u64) {
+    let draws = &mut Draws::of(!seed);
+    let few = [0; 4].map(|_| draws.below(4));
+    let sheets = [draws.counts(), COUNTS_MOST, [0; 4], few].map(|counts| {
+        let shape = draws.shape();
+        draws.sheet(counts, shape)
+    });
+    for (i, sheet) in sheets.iter().enumerate() {
+        let what = || format!("sheet {i} made from {seed:#x}");
+        compare_sound(tally, what, &sheet.bytes());
+    }
+    compare_some(tally, draws, &sheets[3]);
+}
+
+/// Inputs at the limits, and the seeds of songs that are rare.
+pub fn compare_edges(tally: &mut Tally) {
+    edges::compare_all(tally);
+    for seed in songs::RARE {
+        compare_seed(tally, seed);
+    }
+}

@@ -1,0 +1,113 @@
+//! The driver's own reader of sheets, by documents 01 and 02 alone. It composes nothing and writes nothing: it says
+//! whether bytes are a sheet, and else by which number they are refused.
+
+/// Document 02's refusals of a sheet: its fields, and only then its values.
+pub const FIELDS: i64 = 7;
+pub const VALUES: i64 = 8;
+
+/// How many bytes a note and a hit have.
+const NOTE: usize = 14;
+const HIT: usize = 10;
+
+/// Whether the bytes are a sheet. A fault of the fields anywhere comes before a fault of a value anywhere.
+pub fn judge(sheet: &[u8]) -> Result<(), i64> {
+    let bodies = bodies(sheet).ok_or(FIELDS)?;
+    match within(bodies) {
+        true => Ok(()),
+        false => Err(VALUES),
+    }
+}
+
+/// The bodies of ten fields in their order, each of a length that some sheet has there, and nothing behind them.
+fn bodies(sheet: &[u8]) -> Option<[&[u8]; 10]> {
+    let mut rest = sheet;
+    let mut bodies = [&[][..]; 10];
+    for (tag, body) in (0x01..).zip(&mut bodies) {
+        let (head, after) = rest.split_first_chunk::<3>()?;
+        let length = u16::from_be_bytes([head[1], head[2]]).into();
+        if head[0] != tag || !may_have(tag, length) {
+            return None;
+        }
+        (*body, rest) = after.split_at_checked(length)?;
+    }
+    rest.is_empty().then_some(bodies)
+}
+
+/// Whether some sheet's field of this tag has this length.
+fn may_have(tag: u8, length: usize) -> bool {
+    let events = |most: usize, width: usize| length <= most * width && length % width == 0;
+    match tag {
+        0x01 => length == 10,
+        0x02 => length == 4,
+        0x03 => length == 8 * 4,
+        0x04 => length == 5 || length == 6,
+        0x05 => events(56, NOTE),
+        0x06 => events(128, NOTE),
+        0x07 => events(98, HIT),
+        0x08 => events(104, NOTE),
+        0x09 => length == 6,
+        _ => song_lengths().any(|bars| bars == length),
+    }
+}
+
+/// The bars that a song can have: none, 4 or 8 of intro, 4 to 6 phrases, and an outro that may also ring out.
+fn song_lengths() -> impl Iterator<Item = usize> {
+    let intros = [0, 4, 8].into_iter();
+    intros.flat_map(|intro| {
+        (4..=6).flat_map(move |phrases| [0, 2, 4, 8].map(|outro| intro + 8 * phrases + outro))
+    })
+}
+
+/// Whether each value is in its range, and the last field has a byte for each bar of this very song.
+fn within(bodies: [&[u8]; 10]) -> bool {
+    let [song, tempo, chords, scale, lanes @ .., form, plays] = bodies;
+    let [lead, keys, hits, bass] = lanes;
+    let named = song[0] < 2 && song[9] < 4;
+    let harmony = chords.iter().all(|&note| note < 128) && scale.iter().all(|&class| class < 12);
+    let mut notes = [lead, keys, bass].into_iter();
+    let notes = notes.all(|lane| lane.chunks_exact(NOTE).all(is_note));
+    let hits = hits.chunks_exact(HIT).all(is_hit);
+    let played = bars_of(form) == Some(plays.len()) && plays.iter().all(|&layers| layers < 16);
+    named && is_finite(tempo) && harmony && notes && hits && played
+}
+
+/// Whether these four bytes are the bits of a number: no infinity and no NaN. Any other number will do.
+fn is_finite(bits: &[u8]) -> bool {
+    let bits = bits.try_into().expect("an f32 has four bytes");
+    f32::from_bits(u32::from_be_bytes(bits)).is_finite()
+}
+
+/// A note: bar, time, MIDI note, velocity, duration.
+fn is_note(note: &[u8]) -> bool {
+    let floats = [&note[1..5], &note[6..10], &note[10..14]];
+    note[0] < 8 && note[5] < 128 && floats.into_iter().all(is_finite)
+}
+
+/// A hit: bar, kind, time, gain.
+fn is_hit(hit: &[u8]) -> bool {
+    hit[0] < 8 && hit[1] < 4 && is_finite(&hit[2..6]) && is_finite(&hit[6..10])
+}
+
+/// The bars of the song that these six bytes tell, if they tell one.
+fn bars_of(form: &[u8]) -> Option<usize> {
+    let &[intro, intro_bars, phrases, outro, outro_bars, dip] = form else {
+        return None;
+    };
+    let sound = intro < 4
+        && fits(intro, intro_bars)
+        && (4..=6).contains(&phrases)
+        && outro < 5
+        && fits(outro, outro_bars)
+        && dip < 2;
+    let bars = usize::from(intro_bars) + 8 * usize::from(phrases) + usize::from(outro_bars);
+    sound.then_some(bars)
+}
+
+/// Whether an ending of this code can have so many bars: a cold one has none, one that rings out has 2.
+fn fits(code: u8, bars: u8) -> bool {
+    match code {
+        0 => bars == 0,
+        4 => bars == 2,
+        _ => bars == 4 || bars == 8,
+    }
+}

@@ -1,0 +1,228 @@
+//! Sheets of no seed: each value is drawn from all that document 02 lets a sheet have there.
+
+use crate::bytes::field;
+use crate::dsp::NoiseStream;
+use crate::dsp::reach::{next_u64, stream};
+use std::collections::BTreeSet;
+
+/// Numbers at the ends of what is finite, of both signs: zeros, the largest, the smallest that is normal, the largest
+/// and the smallest that are subnormal; and -1.
+const ODD: [u32; 11] = [
+    0,
+    0x8000_0000,
+    0xbf80_0000,
+    0x7f7f_ffff,
+    0xff7f_ffff,
+    0x0080_0000,
+    0x8080_0000,
+    0x007f_ffff,
+    0x807f_ffff,
+    0x0000_0001,
+    0x8000_0001,
+];
+
+/// The tag of each lane, the most events that it may have and how many bytes an event has.
+#[derive(Clone, Copy)]
+pub struct Lane {
+    pub tag: u8,
+    pub most: usize,
+    pub width: usize,
+}
+
+const fn lane(tag: u8, most: usize, width: usize) -> Lane {
+    Lane { tag, most, width }
+}
+
+pub const LANES: [Lane; 4] = [
+    lane(0x05, 56, 14),
+    lane(0x06, 128, 14),
+    lane(0x07, 98, 10),
+    lane(0x08, 104, 14),
+];
+
+/// As many events as the lanes can have.
+pub const COUNTS_MOST: [usize; 4] = [LANES[0].most, LANES[1].most, LANES[2].most, LANES[3].most];
+
+/// Each intro by its code and its bars.
+const INTROS: [(u8, u8); 7] = [(0, 0), (1, 4), (1, 8), (2, 4), (2, 8), (3, 4), (3, 8)];
+
+/// Each outro: those of intros, and the one that rings out.
+const OUTROS: [(u8, u8); 8] = [
+    (0, 0),
+    (1, 4),
+    (1, 8),
+    (2, 4),
+    (2, 8),
+    (3, 4),
+    (3, 8),
+    (4, 2),
+];
+
+/// What a song is made of, as the field 0x09 tells it.
+#[derive(Clone, Copy, Debug, PartialEq)]
+pub struct Shape {
+    pub intro: (u8, u8),
+    pub phrases: u8,
+    pub outro: (u8, u8),
+    pub dip: u8,
+}
+
+impl Shape {
+    pub fn body(self) -> Vec<u8> {
+        let ((intro, intro_bars), (outro, outro_bars)) = (self.intro, self.outro);
+        let numbers = [intro, intro_bars, self.phrases, outro, outro_bars, self.dip];
+        numbers.to_vec()
+    }
+
+    pub fn bars(self) -> usize {
+        let (intro, outro) = (usize::from(self.intro.1), usize::from(self.outro.1));
+        intro + 8 * usize::from(self.phrases) + outro
+    }
+
+    /// Each shape that a song can have.
+    pub fn all() -> Vec<Shape> {
+        let mut all = Vec::new();
+        for (intro, outro) in INTROS.iter().flat_map(|&i| OUTROS.map(|o| (i, o))) {
+            for (phrases, dip) in (4..=6).flat_map(|p| [(p, 0), (p, 1)]) {
+                all.push(Shape {
+                    intro,
+                    phrases,
+                    outro,
+                    dip,
+                });
+            }
+        }
+        all
+    }
+
+    /// How many bars a song can have.
+    pub fn lengths() -> BTreeSet<usize> {
+        Self::all().into_iter().map(Self::bars).collect()
+    }
+}
+
+/// A sheet by the bodies of its fields, 0x01 first.
+#[derive(Clone)]
+pub struct Sheet(pub [Vec<u8>; 10]);
+
+impl Sheet {
+    /// The sheet of these bytes, which are known to be one.
+    pub fn of(bytes: &[u8]) -> Sheet {
+        let mut rest = bytes;
+        Sheet(std::array::from_fn(|_| {
+            let end = 3 + usize::from(u16::from_be_bytes([rest[1], rest[2]]));
+            let body = rest[3..end].to_vec();
+            rest = &rest[end..];
+            body
+        }))
+    }
+
+    pub fn body(&self, tag: u8) -> &Vec<u8> {
+        &self.0[usize::from(tag) - 1]
+    }
+
+    pub fn set(&mut self, tag: u8, body: Vec<u8>) {
+        self.0[usize::from(tag) - 1] = body;
+    }
+
+    pub fn bytes(&self) -> Vec<u8> {
+        let fields = (0x01..).zip(&self.0);
+        fields.flat_map(|(tag, body)| field(tag, body)).collect()
+    }
+}
+
+/// Draws that a number decides.
+pub struct Draws(NoiseStream);
+
+impl Draws {
+    pub fn of(seed: u64) -> Draws {
+        Draws(stream(seed, 0))
+    }
+
+    fn word(&mut self) -> u64 {
+        next_u64(&mut self.0)
+    }
+
+    pub fn below(&mut self, n: usize) -> usize {
+        (self.word() % n as u64) as usize
+    }
+
+    fn byte_below(&mut self, n: u8) -> u8 {
+        self.below(n.into()) as u8
+    }
+
+    fn bytes_below(&mut self, count: usize, n: u8) -> Vec<u8> {
+        (0..count).map(|_| self.byte_below(n)).collect()
+    }
+
+    pub fn one_of<'a, T>(&mut self, all: &'a [T]) -> &'a T {
+        &all[self.below(all.len())]
+    }
+
+    /// Any finite number; every other time an odd one.
+    fn float(&mut self) -> [u8; 4] {
+        let word = self.word();
+        let drawn = (word >> 32) as u32;
+        let bits = if word % 2 == 0 {
+            *self.one_of(&ODD)
+        } else if f32::from_bits(drawn).is_finite() {
+            drawn
+        } else {
+            // one bit less, and the exponent is not the one of infinities and NaNs
+            drawn & 0xff7f_ffff
+        };
+        bits.to_be_bytes()
+    }
+
+    fn note(&mut self) -> Vec<u8> {
+        let (bar, at, midi) = (self.byte_below(8), self.float(), self.byte_below(128));
+        [&[bar], &at[..], &[midi], &self.float(), &self.float()].concat()
+    }
+
+    fn hit(&mut self) -> Vec<u8> {
+        let (bar, kind) = (self.byte_below(8), self.byte_below(4));
+        [&[bar, kind], &self.float()[..], &self.float()].concat()
+    }
+
+    fn lane(&mut self, tag: u8, count: usize) -> Vec<u8> {
+        let event = if tag == 0x07 { Self::hit } else { Self::note };
+        (0..count).flat_map(|_| event(self)).collect()
+    }
+
+    pub fn shape(&mut self) -> Shape {
+        Shape {
+            intro: *self.one_of(&INTROS),
+            phrases: 4 + self.byte_below(3),
+            outro: *self.one_of(&OUTROS),
+            dip: self.byte_below(2),
+        }
+    }
+
+    /// A sheet with so many events in its lanes and a song of this shape; the rest is drawn.
+    pub fn sheet(&mut self, counts: [usize; 4], shape: Shape) -> Sheet {
+        let (style, seed, voice) = (self.byte_below(2), self.word(), self.byte_below(4));
+        let [lead, keys, hits, bass] = counts;
+        let scale = 5 + self.below(2);
+        Sheet([
+            [&[style], &seed.to_be_bytes()[..], &[voice]].concat(),
+            self.float().to_vec(),
+            self.bytes_below(32, 128),
+            self.bytes_below(scale, 12),
+            self.lane(0x05, lead),
+            self.lane(0x06, keys),
+            self.lane(0x07, hits),
+            self.lane(0x08, bass),
+            shape.body(),
+            self.bytes_below(shape.bars(), 16),
+        ])
+    }
+
+    /// Counts of events: in each lane none, as many as it can have, or any number up to that.
+    pub fn counts(&mut self) -> [usize; 4] {
+        COUNTS_MOST.map(|most| match self.below(4) {
+            0 => 0,
+            1 => most,
+            _ => self.below(most + 1),
+        })
+    }
+}
