@@ -1,4 +1,5 @@
 // What a line asks. The letters are said beside the data, in README.md.
+ghost use Prim.Native.Nat.{_≤_};
 use halls::list::hall_list;
 use pages::answer::Written;
 use pages::page::bar_page;
@@ -13,6 +14,7 @@ use probe::kicks::probe_kicks;
 use probe::scores::probe_score;
 use probe::scores::probe_unbeaten;
 use probe::stages::probe_stage_seed;
+use reader::write::reread;
 use streams::mix::wrapping_mul_u64;
 use streams::unmix::undraw;
 
@@ -148,6 +150,42 @@ fn list_fold(hall: u64, count: u64) -> u64 {
     written_fold(written, &buf)
 }
 
+// A byte of a sheet put in place of what stands there; place 0 is none.
+fn spoil(sheet: &mut [u8], place: u64, byte: u8) {
+    if 0 < place && place - 1 < sheet.len() as u64 {
+        sheet[(place - 1) as usize] = byte;
+    }
+}
+
+// The smaller one.
+fn lesser(a: usize, b: usize) -> usize
+    ensures { λ r. ⌜ (r ≤ a) × (r ≤ b) ⌝ }
+{
+    if a < b { a } else { b }
+}
+
+// A fold of what is read of the first n bytes, or of all if they are fewer, and written again.
+fn again_fold(bytes: &[u8], n: usize) -> u64 {
+    let kept = lesser(n, bytes.len());
+    let mut buf = [0u8; 5164];
+    let written = reread(&bytes[..kept], &mut buf);
+    written_fold(written, &buf)
+}
+
+// The sheet of a song, spoiled as `how` tells (README.md), read and written again.
+fn reread_fold(seed: u64, how: u64) -> u64 {
+    let mut buf = [0u8; 5164];
+    let written = sheet((how % 2) as u8, seed, &mut buf);
+    spoil(&mut buf, how / 65536 % 65536, (how / 256 % 256) as u8);
+    match written {
+        Written::Bytes(n) => {
+            let kept = lesser(n, (65535 - how / 4294967296 % 65536) as usize);
+            again_fold(&buf, kept)
+        }
+        Written::Refused(_) => u64::MAX,
+    }
+}
+
 // Our answer; the largest number for a letter that asks nothing.
 pub fn answer(what: u8, a: u64, b: u64) -> u64 {
     match what {
@@ -166,6 +204,7 @@ pub fn answer(what: u8, a: u64, b: u64) -> u64 {
         b'M' => paper_fold(0, a, b),
         b'N' => paper_fold(1, a, b),
         b'L' => list_fold(a, b),
+        b'R' => reread_fold(a, b),
         _ => u64::MAX,
     }
 }

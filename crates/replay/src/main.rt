@@ -81,5 +81,6 @@ fn main() {
     replay(b"songs");
     replay(b"pages");
     replay(b"halls");
+    replay(b"sheets");
     replay(b"wrong");
 }
