@@ -1,11 +1,11 @@
 //! What is measured: each case, done by our libraries and by the Rust for the same song, or by plain C for the same
-//! hall.
+//! hall; and a sheet read back beside the same sheet composed, by our library and by the Rust.
 
 use crate::compose::reach::STYLES;
 use crate::compose::song::{Song, song};
 use crate::compose::{Form, arrange};
 use crate::seqochanu::raw::seqochanu_hall_list;
-use crate::seqochanu::{self, COUNT_MOST, LIST_MOST, PAGE_MOST, SHEET_MOST, Style};
+use crate::seqochanu::{self, COUNT_MOST, LIST_MOST, PAGE_MOST, Refusal, SHEET_MOST, Style};
 use crate::{sum, writer};
 use std::hint::black_box;
 
@@ -21,13 +21,14 @@ mod raw {
     }
 }
 
-/// A song to be made, and how many bars it has, which a player has read on its sheet. To a case of halls its seed is a
-/// hall's number.
+/// A song to be made, how many bars it has, which a player has read on its sheet, and that sheet, to be read back. To
+/// a case of halls its seed is a hall's number.
 #[derive(Clone, Copy)]
 pub struct Asked {
     pub style: u8,
     pub seed: u64,
     pub bars: u64,
+    pub sheet: &'static [u8],
 }
 
 impl Asked {
@@ -35,17 +36,28 @@ impl Asked {
     pub fn new(style: u8, i: u64) -> Self {
         let seed = if i % 2 == 0 { i } else { i.reverse_bits() };
         let bars = arrange(seed).bars() as u64;
-        Self { style, seed, bars }
+        // kept to the end of the run, so that a round finds the sheet made
+        let sheet = seqochanu::sheet_vec(ours(style), seed).leak();
+        Self {
+            style,
+            seed,
+            bars,
+            sheet,
+        }
     }
 
     pub fn ours(self) -> Style {
-        Style::try_from(self.style).expect("both styles are asked for")
+        ours(self.style)
     }
 
     fn rust(self) -> (Song, Form) {
         let style = STYLES[usize::from(self.style)];
         (song(style, self.seed), arrange(self.seed))
     }
+}
+
+fn ours(style: u8) -> Style {
+    Style::try_from(style).expect("both styles are asked for")
 }
 
 /// One way to do a case: it answers a number that tells its work.
@@ -63,7 +75,8 @@ impl Side {
 
 const BOTH: &[u8] = &[0, 1];
 
-/// The first side is ours. `batch` songs are made in a round. Where the style says nothing, `styles` has just one.
+/// The first side is ours, and the others are set beside it. `batch` songs are made in a round. Where the style says
+/// nothing, `styles` has just one.
 pub struct Case {
     pub name: &'static str,
     pub styles: &'static [u8],
@@ -103,23 +116,11 @@ fn songs() -> Case {
 }
 
 fn sheets() -> Case {
-    let mut ours = [0; SHEET_MOST];
-    let mut rust = [0; SHEET_MOST];
     Case {
         name: "sheet",
         styles: BOTH,
         batch: 20,
-        sides: vec![
-            side("ours", move |a| {
-                let len = seqochanu::sheet(a.ours(), a.seed, &mut ours).expect("room");
-                black_box(&ours)[..len].len() as u64
-            }),
-            side("Rust", move |a| {
-                let (song, form) = a.rust();
-                let len = writer::sheet(a.style, a.seed, &song, &form, &mut rust);
-                black_box(&rust)[..len].len() as u64
-            }),
-        ],
+        sides: vec![composing("ours"), rust_composing("Rust")],
     }
 }
 
@@ -186,8 +187,68 @@ fn lists() -> Case {
     }
 }
 
+/// The sheet of a song composed, which a reading is set beside too.
+fn composing(name: &'static str) -> Side {
+    let mut buf = [0; SHEET_MOST];
+    side(name, move |a| {
+        let len = seqochanu::sheet(a.ours(), a.seed, &mut buf).expect("room");
+        black_box(&buf)[..len].len() as u64
+    })
+}
+
+/// The same by the Rust, with a writer that allocates nothing.
+fn rust_composing(name: &'static str) -> Side {
+    let mut buf = [0; SHEET_MOST];
+    side(name, move |a| {
+        let (song, form) = a.rust();
+        let len = writer::sheet(a.style, a.seed, &song, &form, &mut buf);
+        black_box(&buf)[..len].len() as u64
+    })
+}
+
+/// A sheet read and not written: a buffer of no bytes is refused only when the whole sheet is read.
+fn reading() -> Case {
+    let reading = |a: Asked| match black_box(seqochanu::reread(a.sheet, &mut [])) {
+        Err(Refusal::ShortBuffer) => a.sheet.len() as u64,
+        other => panic!("{other:?} for a song's sheet"),
+    };
+    Case {
+        name: "sheet read",
+        styles: BOTH,
+        batch: 20,
+        sides: vec![
+            side("reading", reading),
+            composing("composing"),
+            rust_composing("the Rust composing"),
+        ],
+    }
+}
+
+/// A sheet read, and what was read written again.
+fn rereading() -> Case {
+    let mut buf = [0; SHEET_MOST];
+    let rereading = move |a: Asked| {
+        let len = seqochanu::reread(a.sheet, &mut buf).expect("a song's sheet, and room");
+        black_box(&buf)[..len].len() as u64
+    };
+    Case {
+        name: "sheet read and written again",
+        styles: BOTH,
+        batch: 20,
+        sides: vec![
+            side("reading and writing", rereading),
+            composing("composing"),
+            rust_composing("the Rust composing"),
+        ],
+    }
+}
+
 pub fn of_songs() -> [Case; 3] {
     [songs(), sheets(), pages()]
+}
+
+pub fn of_readings() -> [Case; 2] {
+    [reading(), rereading()]
 }
 
 pub fn of_halls() -> [Case; 1] {
@@ -195,7 +256,8 @@ pub fn of_halls() -> [Case; 1] {
 }
 
 pub fn all() -> impl Iterator<Item = Case> {
-    of_songs().into_iter().chain(of_halls())
+    let of_sheets = of_songs().into_iter().chain(of_readings());
+    of_sheets.chain(of_halls())
 }
 
 /// Stops where our libraries and the Rust differ on a song: then the times would not be those of the same work.
@@ -215,6 +277,18 @@ pub fn check(a: Asked) {
         bars += 1;
     }
     assert_eq!(bars, a.bars, "the pages {what}");
+}
+
+/// Stops where a song's sheet is not read, or is not written again byte for byte.
+pub fn check_reading(a: Asked) {
+    let what = format!("the sheet of {:#x} in style {}", a.seed, a.style);
+    let none = seqochanu::reread(a.sheet, &mut []);
+    assert_eq!(none, Err(Refusal::ShortBuffer), "{what}");
+    // no byte is right before the call
+    let mut again: Vec<u8> = a.sheet.iter().map(|byte| !byte).collect();
+    let len = seqochanu::reread(a.sheet, &mut again);
+    assert_eq!(len, Ok(a.sheet.len()), "{what}");
+    assert_eq!(again, a.sheet, "{what}");
 }
 
 /// Stops where our list of a hall and that of plain C differ.

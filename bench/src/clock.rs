@@ -43,13 +43,15 @@ pub fn report(mut case: Case, songs: &[Asked]) {
     let passes = case.batch.div_ceil(4);
     let times = rounds(&mut case, songs, passes);
     let title = case.title(songs[0].style);
-    let ours = &times[0];
+    let (first, ours) = (&case.sides[0], &times[0]);
     for (side, theirs) in case.sides.iter().zip(&times).skip(1) {
         let ratios: Vec<f64> = ours.iter().zip(theirs).map(|(o, t)| o / t).collect();
         let (o, t) = (quantile(ours, 0.5), quantile(theirs, 0.5));
         println!(
-            "{title}: ours {o:.2} µs, {} {t:.2} µs; ours / {} {:.2}, quartiles {:.2} and {:.2} of {} rounds",
+            "{title}: {} {o:.2} µs, {} {t:.2} µs; {} / {} {:.2}, quartiles {:.2} and {:.2} of {} rounds",
+            first.name,
             side.name,
+            first.name,
             side.whose(),
             o / t,
             quantile(&ratios, 0.25),

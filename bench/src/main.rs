@@ -1,9 +1,9 @@
-//! Measures our static libraries and the Rust on the same songs, and our lists of halls beside plain C. The Rust's own
-//! files stand beside this one when it is compiled (see `run`).
+//! Measures our static libraries and the Rust on the same songs, our reading of sheets beside composing them, and
+//! our lists of halls beside plain C. The Rust's own files stand beside this one when it is compiled (see `run`).
 //!
-//! `bench times` prints times for songs, `bench lists` those for lists, `bench stack` the stack that our calls took.
-//! `bench sides` says what can be counted, and `bench count CASE SIDE STYLE` does it for a few songs or halls inside
-//! `bench_measured`, for a tool that counts instructions.
+//! `bench times` prints times for songs, `bench readings` those for sheets read back, `bench lists` those for lists,
+//! `bench stack` the stack that our calls took. `bench sides` says what can be counted, and `bench count CASE SIDE
+//! STYLE` does it for a few songs or halls inside `bench_measured`, for a tool that counts instructions.
 
 // the Rust's files are compiled whole, and the driver asks for a part of them
 #[allow(dead_code, unused_imports)]
@@ -15,7 +15,7 @@ mod style;
 #[allow(dead_code)]
 mod synth;
 
-// of the list, our wrapper's C function alone is asked for: its safe call makes a vector
+// of the list, our wrapper's C function alone is asked for: its safe call makes a vector; `Sheet` is not used
 #[allow(dead_code)]
 mod seqochanu;
 
@@ -48,6 +48,23 @@ fn times() {
             pages as f64 / TIMED as f64
         );
         for case in cases::of_songs() {
+            clock::report(case, &songs);
+        }
+    }
+}
+
+fn readings() {
+    for style in [0, 1] {
+        let songs = songs(style, TIMED);
+        for &a in &songs {
+            cases::check_reading(a);
+        }
+        let bytes: usize = songs.iter().map(|a| a.sheet.len()).sum();
+        println!(
+            "style {style}: {TIMED} sheets of {:.0} bytes",
+            bytes as f64 / TIMED as f64
+        );
+        for case in cases::of_readings() {
             clock::report(case, &songs);
         }
     }
@@ -105,12 +122,13 @@ fn main() {
     let number = |word: &str| word.parse().expect("a whole number");
     match words[..] {
         ["times"] => times(),
+        ["readings"] => readings(),
         ["lists"] => lists(),
         ["sides"] => sides(),
         ["count", case, side, style] => {
             count(number(case), number(side), number(style) as u8);
         }
         ["stack"] => stack::report([songs(0, TIMED), songs(1, TIMED)].concat()),
-        _ => panic!("times, lists, sides, count CASE SIDE STYLE, or stack"),
+        _ => panic!("times, readings, lists, sides, count CASE SIDE STYLE, or stack"),
     }
 }

@@ -2,7 +2,9 @@
 //! they changed tells. A bound for all calls is stack.py's.
 
 use crate::cases::Asked;
-use crate::seqochanu::raw::{seqochanu_bar_page, seqochanu_hall_list, seqochanu_sheet};
+use crate::seqochanu::raw::{
+    seqochanu_bar_page, seqochanu_hall_list, seqochanu_reread, seqochanu_sheet,
+};
 use crate::seqochanu::{COUNT_MOST, LIST_MOST, PAGE_MOST, SHEET_MOST};
 
 /// How far down the stack is marked, and what is left for this module's own calls.
@@ -71,7 +73,20 @@ fn pages(songs: &[Asked]) -> usize {
     all.last().expect("a page")
 }
 
-/// A list may take less stack than is left for this module, so its calls need a frame below that: the buffer has one.
+/// A reading or a list may take less stack than is left for this module, so its calls need a frame below that: the
+/// buffer has one.
+#[inline(never)]
+fn rereadings(songs: &[Asked]) -> usize {
+    let mut buf = [0u8; SHEET_MOST];
+    let (bytes, len) = (buf.as_mut_ptr() as u64, SHEET_MOST as u64);
+    let function = seqochanu_reread as *const () as usize;
+    let all = songs.iter().map(|a| {
+        let (sheet, sheet_len) = (a.sheet.as_ptr() as u64, a.sheet.len() as u64);
+        call(function, [sheet, sheet_len, bytes, len, 0])
+    });
+    all.last().expect("a sheet")
+}
+
 #[inline(never)]
 fn lists(songs: &[Asked]) -> usize {
     let mut buf = [0u8; LIST_MOST];
@@ -88,6 +103,10 @@ pub fn report(songs: Vec<Asked>) {
     let measure = move || {
         println!("seqochanu_sheet: took {} bytes", taken(|| sheets(&songs)));
         println!("seqochanu_bar_page: took {} bytes", taken(|| pages(&songs)));
+        println!(
+            "seqochanu_reread: took {} bytes",
+            taken(|| rereadings(&songs))
+        );
         println!(
             "seqochanu_hall_list: took {} bytes",
             taken(|| lists(&songs))
