@@ -144,7 +144,7 @@ fn the_sheet_of_a_song_is_read_and_laid_out_again() {
 
 #[test]
 fn what_is_read_is_what_the_format_says() {
-    // the sheet that docs/FORMAT.md takes apart
+    // the sheet that docs/EXAMPLE.md takes apart
     let sheet = Sheet::parse(&sheet_vec(Style::Sleep, 2350)).unwrap();
     assert_eq!(sheet.voice, Voice::EpVel);
     assert_eq!(sheet.tempo, 76.0);
