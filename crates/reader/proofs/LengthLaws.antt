@@ -2,12 +2,11 @@
 -- nothing.
 use mathlib.Core.Path.{_≡_, refl, ap, _∙_}
 use mathlib.Core.Bool.{Bool, true, false, cond}
-use mathlib.Core.List.{List}
 use Prim.Native.Nat.{ℕ, _*_, _<_}
 use borrow.Author.Tests.{eqb-true, eq-eqb}
 use lib.Dec.{eqb}
-use lib.ListN.{length, getD}
-use Rattle.reader.specs.Layout.{sizeAt, widths, least, lengthFits, formed}
+use lib.ListN.{getD}
+use Rattle.reader.specs.Layout.{sizeAt, widths, least, lengthFits}
 use Rattle.reader.specs.Lengths.{Had, AllHad}
 use Rattle.reader.specs.Song.{sheetOf}
 use Rattle.reader.specs.Tests.{allTo}
@@ -43,10 +42,6 @@ length-had k n h e =
     go : (j : ℕ) → j < 10 → (t : Bool) → eqb j k ≡ t → lengthFits j (cond t n (shortest j)) ≡ true
     go j i true q = rw (eqb-true j k q) e
     go j i false q = shortest-fits j i
-
--- so bytes that are not refused with 7 have the lengths of some value
-pub formed-had : (bytes : List ℕ) → formed bytes ≡ true → AllHad (sizeAt bytes)
-formed-had bytes e = lengths-had (sizeAt bytes) (formed-fits bytes e)
 
 -- ---- what is had fits
 pub length-fits : (k : ℕ) → k < 10 → (v : Song) → Typed v → valid v ≡ true → lengthFits k (sizeAt (sheetOf v) k) ≡ true
