@@ -1,4 +1,8 @@
 // What a call answers that writes into a buffer.
+ghost use mathlib.Core.Path.{_≡_};
+ghost use lib.ListN.{length};
+ghost use Rattle.pages.specs.Answer.{Writes, writtenOf, bufferOf};
+use crate::put::put_bytes;
 use composer::refusal::Refusal;
 
 pub enum Written {
@@ -6,4 +10,16 @@ pub enum Written {
     Bytes(usize),
     // nothing is written
     Refused(Refusal),
+}
+
+// Bytes as they stand, if the buffer is as long as they are.
+pub fn bytes_into(bytes: &[u8], buf: &mut [u8]) -> Written
+    ensures { λ r. ⌜ r ≡ writtenOf (length (now (buf .entry))) (Writes (now (bytes .entry))) ⌝ }
+    ensures { λ r. ⌜ now (buf .exit) ≡ bufferOf (now (buf .entry)) (Writes (now (bytes .entry))) ⌝ }
+{
+    if buf.len() < bytes.len() {
+        return Written::Refused(Refusal::ShortBuffer);
+    }
+    let n = put_bytes(buf, 0, bytes);
+    Written::Bytes(n)
 }
