@@ -19,6 +19,13 @@ pub both : (a b : Bool) → (a && b) ≡ true → (a ≡ true) × (b ≡ true)
 both true b e = (refl, e)
 both false b e = (e, absurd (let z : _≡_ {A = ℕ} 0 1 = cc in omega arith))
 
+-- where the first of two is known
+pub and-then : {a t : Bool} (b : Bool) → a ≡ true → t ≡ b → t ≡ (a && b)
+and-then b p q = rw p q
+
+pub and-else : {a t : Bool} (b : Bool) → a ≡ false → t ≡ false → t ≡ (a && b)
+and-else b p q = rw p q
+
 pub all-to-at : (p : ℕ → Bool) (n : ℕ) → allTo p n ≡ true → (i : ℕ) → i < n → p i ≡ true
 unfolding allTo
 all-to-at p zero e i h = absurd (not-suc-le-zero h)

@@ -1,7 +1,16 @@
--- By what its calls answer. Assumes nothing.
-use mathlib.Core.Path.{refl}
+-- Each `&&` asks its second side only where the first holds, and is their conjunction. Assumes nothing.
+use mathlib.Core.Bool.{_&&_}
+use mathlib.Core.Logic.{⊎-elim}
+use mathlib.Core.Path.{_≡_, refl, _∙_}
+use Prim.Native.Nat.{_+_}
+use borrow.Author.Tests.{lt-ltb, le-ltb}
+use lib.Dec.{leb, ltb}
+use lib.Ieee.Scale.{finite}
+use Rattle.pages.specs.Bytes.{f32At}
 use Rattle.reader.specs.Song.{noteAt}
+use Rattle.reader.specs.Within.{noteWithin}
 use Rattle.reader.proofs.ReadingLaws.{note-tests}
+use Rattle.reader.proofs.TestLaws.{and-then, and-else}
 use borrow.Author.Needs.{needs}
 use Rattle.reader.proofs.event.note_passes.Statement.{statement}
 use Rattle.reader.proofs.event.note_passes.Tie as tie
@@ -9,17 +18,17 @@ use Rattle.reader.proofs.event.note_passes.Tie as tie
 byte-in-requires : tie.Need-byte-in-requires
 byte-in-requires c κs = search needs
 
-add-finite-at : tie.Need-add-finite-at
-add-finite-at c = search needs
-
-finite-at-requires : tie.Need-finite-at-requires
-finite-at-requires c κs = search needs
-
 add-byte-in : tie.Need-add-byte-in
 add-byte-in c = search needs
 
 byte-in-requires-2 : tie.Need-byte-in-requires-2
 byte-in-requires-2 c κs = search needs
+
+add-finite-at : tie.Need-add-finite-at
+add-finite-at c = search needs
+
+finite-at-requires : tie.Need-finite-at-requires
+finite-at-requires c κs = search needs
 
 add-finite-at-2 : tie.Need-add-finite-at-2
 add-finite-at-2 c = search needs
@@ -33,21 +42,59 @@ add-finite-at-3 c = search needs
 finite-at-requires-3 : tie.Need-finite-at-requires-3
 finite-at-requires-3 c κs = search needs
 
-returns : tie.Need-returns
+bar-and-midi : (d : tie.Joined1) → d .if1 .if2 ≡ (ltb (d .before .before .byte-in .result) 8 && leb (d .before .byte-in2 .result) 127)
+bar-and-midi d =
+    let b = d .before .before .byte-in .result in
+    ⊎-elim
+    (λ w. and-then _ (lt-ltb b 8 (w .0 .taken)) (w .1))
+    (λ w. and-else _ (le-ltb b 8 (w .0 .left)) (w .1 ∙ le-ltb b 8 (w .0 .left)))
+    (d .if1 .came)
+
+and-time : (d : tie.Joined2)
+    → let a = d .before .before .before .before .before .args in
+    d .if2 .if3 ≡ (d .before .if1 .if2 && finite (f32At (a .bytes .now) (a .at + 1)))
+and-time d =
+    ⊎-elim
+    (λ w. and-then _ (w .0 .taken) (w .2 ∙ w .1 .ensures))
+    (λ w. and-else _ (w .0 .left) (w .1 ∙ w .0 .left))
+    (d .if2 .came)
+
+and-vel : (d : tie.Joined3)
+    → let a = d .before .before .before .before .before .before .args in
+    d .if3 .if4 ≡ (d .before .if2 .if3 && finite (f32At (a .bytes .now) (a .at + 6)))
+and-vel d =
+    ⊎-elim
+    (λ w. and-then _ (w .0 .taken) (w .2 ∙ w .1 .ensures))
+    (λ w. and-else _ (w .0 .left) (w .1 ∙ w .0 .left))
+    (d .if3 .came)
+
+all-five : (d : tie.Joined3)
+    → let a = d .before .before .before .before .before .before .args in
+    (d .if3 .if4 && finite (f32At (a .bytes .now) (a .at + 10))) ≡ noteWithin (noteAt (a .bytes .now) (a .at))
 unfolding noteAt
-returns c = let d = c .before .before .before .before .before .before in rw (c .finite-at3 .ensures, c .before .finite-at2 .ensures, c .before .before .byte-in2 .ensures, c .before .before .before .finite-at .ensures, c .before .before .before .before .byte-in .ensures) (note-tests (noteAt (d .args .bytes .now) (d .args .at)) refl)
+all-five d =
+    let m = d .before .before .before in
+    let a = m .before .before .before .args in
+    rw (and-vel d, and-time (d .before), bar-and-midi (d .before .before), m .byte-in2 .ensures, m .before .byte-in .ensures) (note-tests (noteAt (a .bytes .now) (a .at)) refl)
+
+returns : tie.Need-returns
+returns c = and-then _ (c .before .if4 .taken) (c .finite-at3 .ensures) ∙ all-five (c .before .before)
+
+returns-2 : tie.Need-returns-2
+returns-2 c = and-else _ (c .if4 .left) (c .if4 .left) ∙ all-five (c .before)
 
 pub note-passes-spec : {M : Type 1} → statement M
 note-passes-spec =
     tie.close
     (tie.spec
     byte-in-requires
-    add-finite-at
-    finite-at-requires
     add-byte-in
     byte-in-requires-2
+    add-finite-at
+    finite-at-requires
     add-finite-at-2
     finite-at-requires-2
     add-finite-at-3
     finite-at-requires-3
-    returns)
+    returns
+    returns-2)
