@@ -45,6 +45,22 @@ by-tests true true v e = (refl, refl)
 by-tests true false v e = let z : _≡_ {A = ℕ} 0 1 = cc in absurd (omega arith)
 by-tests false b v e = let z : _≡_ {A = ℕ} 0 1 = cc in absurd (omega arith)
 
+-- what is refused is zero throughout
+abbrev refusalIn : Outcome → Refusal
+refusalIn Outcome.Done = Refusal.SheetFields
+refusalIn (Outcome.Refused r) = r
+
+refused-by : (a b : Bool) (v : Song) (r : Refusal)
+    → cond a (cond b (record { outcome = Outcome.Done; song = v }) (readRefused Refusal.SheetValues)) (readRefused Refusal.SheetFields) .outcome ≡ Outcome.Refused r
+    → cond a (cond b (record { outcome = Outcome.Done; song = v }) (readRefused Refusal.SheetValues)) (readRefused Refusal.SheetFields) ≡ readRefused r
+refused-by true true v r e = let z : _≡_ {A = ℕ} 0 1 = cc in absurd (omega arith)
+refused-by true false v r e = ap (λ (o : Outcome). readRefused (refusalIn o)) e
+refused-by false b v r e = ap (λ (o : Outcome). readRefused (refusalIn o)) e
+
+pub read-refused : (bytes : List ℕ) (r : Refusal) → readOf bytes .outcome ≡ Outcome.Refused r → readOf bytes ≡ readRefused r
+unfolding readOf
+read-refused bytes r e = refused-by (formed bytes) (coded bytes && within (songIn bytes)) (songIn bytes) r e
+
 pub passes : (bytes : List ℕ) → readOf bytes .outcome ≡ Outcome.Done → Passes bytes
 unfolding readOf
 passes bytes done =

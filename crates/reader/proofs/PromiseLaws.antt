@@ -109,11 +109,12 @@ write-answers v b = record {
 }
 
 -- ---- read and written again
-reread-given : (v : Song) (bytes : List ℕ) → Octets bytes → Reads bytes v → rereadAsked bytes ≡ Writes bytes
+pub reread-done : (bytes : List ℕ) → Octets bytes → readOf bytes .outcome ≡ Outcome.Done → rereadAsked bytes ≡ Writes bytes
 unfolding rereadAsked
-reread-given v bytes octets e =
-    let t = reads-told bytes v e in
-    rw (t .0) (asked-valid (readOf bytes .song) (read-valid bytes (t .0)) ∙ ap Writes (read-bytes bytes octets (t .0)))
+reread-done bytes octets done = rw done (asked-valid (readOf bytes .song) (read-valid bytes done) ∙ ap Writes (read-bytes bytes octets done))
+
+reread-given : (v : Song) (bytes : List ℕ) → Octets bytes → Reads bytes v → rereadAsked bytes ≡ Writes bytes
+reread-given v bytes octets e = reread-done bytes octets (reads-told bytes v e .0)
 
 abbrev number : {A : Type 0} → Answer A → ℕ
 number (Gives x) = 0

@@ -1,8 +1,10 @@
 // The reader of sheets.
 ghost use mathlib.Core.Path.{_≡_};
+ghost use Rattle.reader.specs.Inner.Layout.{layoutOf};
 ghost use Rattle.reader.specs.Promise.{Octets};
 ghost use Rattle.reader.specs.Read.{readRefused, readOf};
 use crate::codes::is_coded;
+use crate::layout::Layout;
 use crate::layout::is_formed;
 use crate::layout::layout_of;
 use crate::passes::song_passes;
@@ -48,27 +50,40 @@ fn refused(r: Refusal) -> Read
     }
 }
 
-// The song that a sheet names, with its style and seed. Bytes that are not ten fields in order, each of a length that
-// some value has there, are refused with 7; only then an unknown code, a value out of range or a song of another
-// length with 8. Whatever the bytes, each is below 256: what the theorem that a sheet is written again as it was read
-// asks of them.
+// How reading goes: bytes that are not ten fields in order, each of a length that some value has there, are refused
+// with 7; only then an unknown code, a value out of range or a song of another length with 8.
+pub(crate) fn outcome_of(bytes: &[u8], l: Layout) -> Outcome
+    requires { ⌜ l ≡ layoutOf (now bytes) ⌝ }
+    ensures { λ r. ⌜ r ≡ readOf (now (bytes .entry)) .outcome ⌝ }
+{
+    let formed = is_formed(bytes, l);
+    if !formed {
+        return Outcome::Refused(Refusal::SheetFields);
+    }
+    let coded = is_coded(bytes, l);
+    let within = song_passes(bytes, l);
+    if !(coded & within) {
+        return Outcome::Refused(Refusal::SheetValues);
+    }
+    Outcome::Done
+}
+
+// The song that a sheet names, with its style and seed, or 7, or 8. Whatever the bytes, each is below 256: what the
+// theorem that a sheet is written again as it was read asks of them.
 pub fn read(bytes: &[u8]) -> Read
     ensures { λ r. ⌜ r ≡ readOf (now (bytes .entry)) ⌝ }
     ensures { λ r. ⌜ Octets (now (bytes .entry)) ⌝ }
 {
     let l = layout_of(bytes);
-    let formed = is_formed(bytes, l);
-    if !formed {
-        return refused(Refusal::SheetFields);
-    }
-    let coded = is_coded(bytes, l);
-    let within = song_passes(bytes, l);
-    if !(coded & within) {
-        return refused(Refusal::SheetValues);
-    }
-    let song = song_in(bytes, l);
-    Read {
-        outcome: Outcome::Done,
-        song: song,
+    let outcome = outcome_of(bytes, l);
+    match outcome {
+        Outcome::Refused(r) => refused(r),
+        Outcome::Done => {
+            let song = song_in(bytes, l);
+            Read {
+                outcome: Outcome::Done,
+                song: song,
+            }
+        }
     }
 }

@@ -8,12 +8,14 @@ ghost use Rattle.reader.specs.Song.{sheetOf};
 ghost use Rattle.reader.specs.Value.{Typed};
 ghost use Rattle.reader.specs.Within.{within};
 use crate::cleared::is_cleared;
-use crate::read::read;
+use crate::layout::layout_of;
+use crate::read::outcome_of;
 use crate::song::Song;
 use crate::within::is_within;
 use composer::refusal::Outcome;
 use composer::refusal::Refusal;
 use pages::answer::Written;
+use pages::answer::bytes_into;
 use pages::sheet::sheet_into;
 
 // The sheet of a song whose numbers are in range, if the buffer is as long as this very sheet.
@@ -44,19 +46,17 @@ pub fn write(v: Song, buf: &mut [u8]) -> Written
     song_into(v, buf)
 }
 
-// Reads a sheet and writes what was read again, which gives the same bytes. Refusals are the reader's, 7 and then 8,
-// and then 2 for a buffer that is shorter than the sheet; none of them writes anything.
+// Reads a sheet and writes what was read again. These are the sheet's own bytes, so no song is made: the sheet is
+// tested where it stands, and copied. Refusals are the reader's, 7 and then 8, and then 2 for a buffer that is shorter
+// than the sheet; none of them writes anything.
 pub fn reread(sheet: &[u8], buf: &mut [u8]) -> Written
     ensures { λ r. ⌜ r ≡ writtenOf (length (now (buf .entry))) (rereadAsked (now (sheet .entry))) ⌝ }
     ensures { λ r. ⌜ now (buf .exit) ≡ bufferOf (now (buf .entry)) (rereadAsked (now (sheet .entry))) ⌝ }
 {
-    let r = read(sheet);
-    let outcome = r.outcome;
+    let l = layout_of(sheet);
+    let outcome = outcome_of(sheet, l);
     match outcome {
-        Outcome::Refused(x) => Written::Refused(x),
-        Outcome::Done => {
-            let song = r.song;
-            song_into(song, buf)
-        }
+        Outcome::Refused(r) => Written::Refused(r),
+        Outcome::Done => bytes_into(sheet, buf),
     }
 }
