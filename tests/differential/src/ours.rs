@@ -1,5 +1,5 @@
-//! The exported functions of the crates `probe` and `seqochanu` with their own numbers for answers, behind safe
-//! wrappers. A slice passes as a pointer and a length; no function asks more of its caller.
+//! The exported functions of the crates `probe`, `roundtrip` and `seqochanu` with their own numbers for answers, behind
+//! safe wrappers. A slice passes as a pointer and a length; no function asks more of its caller.
 
 use crate::compose::reach::form::Parts;
 use crate::seqochanu::raw::{
@@ -41,6 +41,7 @@ mod raw {
         pub fn probe_kicks(style: u8, seed: u64, out: *mut u64, len: usize);
         pub fn probe_made_kicks(words: *const u64, count: usize, out: *mut u64, len: usize);
         pub fn probe_counters(style: u8, seed: u64, out: *mut u64, len: usize) -> i64;
+        pub fn roundtrip_sheet(read: *const u8, count: usize, out: *mut u8, len: usize) -> u8;
     }
 }
 
@@ -144,4 +145,13 @@ pub fn hall_list(hall: u64, count: u64, buf: &mut [u8]) -> i64 {
 pub fn reread(sheet: &[u8], buf: &mut [u8]) -> i64 {
     let (read, count) = (sheet.as_ptr(), sheet.len());
     unsafe { seqochanu_reread(read, count, buf.as_mut_ptr(), buf.len()) }
+}
+
+/// The length of the sheet, which is that of what is written, or minus the number of the refusal.
+pub fn roundtrip(sheet: &[u8], buf: &mut [u8]) -> i64 {
+    let (read, count) = (sheet.as_ptr(), sheet.len());
+    match unsafe { raw::roundtrip_sheet(read, count, buf.as_mut_ptr(), buf.len()) } {
+        0 => count as i64,
+        number => -i64::from(number),
+    }
 }

@@ -15,11 +15,16 @@ use faults::{Fault, faulty, structure_faults, value_faults};
 use judge::judge;
 use sheets::{COUNTS_MOST, Draws, Sheet};
 
-/// Bytes read and written again into a buffer of `len` places.
+/// Bytes read and written again into a buffer of `len` places: by the call for C, which makes no song, and by the
+/// reader's song and the canonical writer.
 fn compare_judged(tally: &mut Tally, what: impl Fn() -> String, bytes: &[u8], len: usize) {
     let asked = judge(bytes).map(|()| bytes);
-    let what = || format!("{}, read back", what());
-    compare_call(tally, what, asked, len, |buf| ours::reread(bytes, buf));
+    let back = || format!("{}, read back", what());
+    compare_call(tally, back, asked, len, |buf| ours::reread(bytes, buf));
+    let by_song = || format!("{}, read back by its song", what());
+    compare_call(tally, by_song, asked, len, |buf| {
+        ours::roundtrip(bytes, buf)
+    });
 }
 
 /// A sheet, into buffers with room to spare, just as long and a byte short.
