@@ -15,6 +15,11 @@ mod raw {
         pub safe fn probe_song(style: u8, seed: u64) -> u64;
     }
 
+    #[link(name = "roundtrip", kind = "static")]
+    unsafe extern "C" {
+        pub fn roundtrip_sheet(read: *const u8, count: usize, out: *mut u8, len: usize) -> u8;
+    }
+
     // hall.c's
     unsafe extern "C" {
         pub fn plain_hall_list(hall: u64, count: usize, buf: *mut u8) -> usize;
@@ -206,22 +211,27 @@ fn rust_composing(name: &'static str) -> Side {
     })
 }
 
+/// A case of sheets read, beside composing them.
+fn beside_composing(name: &'static str, reading: Side) -> Case {
+    Case {
+        name,
+        styles: BOTH,
+        batch: 20,
+        sides: vec![
+            reading,
+            composing("composing"),
+            rust_composing("the Rust composing"),
+        ],
+    }
+}
+
 /// A sheet read and not written: a buffer of no bytes is refused only when the whole sheet is read.
 fn reading() -> Case {
     let reading = |a: Asked| match black_box(seqochanu::reread(a.sheet, &mut [])) {
         Err(Refusal::ShortBuffer) => a.sheet.len() as u64,
         other => panic!("{other:?} for a song's sheet"),
     };
-    Case {
-        name: "sheet read",
-        styles: BOTH,
-        batch: 20,
-        sides: vec![
-            side("reading", reading),
-            composing("composing"),
-            rust_composing("the Rust composing"),
-        ],
-    }
+    beside_composing("sheet read", side("reading", reading))
 }
 
 /// A sheet read, and what was read written again.
@@ -231,24 +241,32 @@ fn rereading() -> Case {
         let len = seqochanu::reread(a.sheet, &mut buf).expect("a song's sheet, and room");
         black_box(&buf)[..len].len() as u64
     };
-    Case {
-        name: "sheet read and written again",
-        styles: BOTH,
-        batch: 20,
-        sides: vec![
-            side("reading and writing", rereading),
-            composing("composing"),
-            rust_composing("the Rust composing"),
-        ],
-    }
+    let name = "sheet read and written again";
+    beside_composing(name, side("reading and writing", rereading))
+}
+
+/// The refusal of a sheet that is read into a song, which the canonical writer then writes; 0 for none.
+fn roundtrip(sheet: &[u8], buf: &mut [u8]) -> u8 {
+    unsafe { raw::roundtrip_sheet(sheet.as_ptr(), sheet.len(), buf.as_mut_ptr(), buf.len()) }
+}
+
+/// The same by way of the song: what a program in Rattle pays that reads a value and writes it.
+fn round_tripping() -> Case {
+    let mut buf = [0; SHEET_MOST];
+    let trip = move |a: Asked| {
+        assert_eq!(roundtrip(a.sheet, &mut buf), 0, "a song's sheet, and room");
+        black_box(&buf)[..a.sheet.len()].len() as u64
+    };
+    let name = "sheet read into a song, and the song written";
+    beside_composing(name, side("reading and writing", trip))
 }
 
 pub fn of_songs() -> [Case; 3] {
     [songs(), sheets(), pages()]
 }
 
-pub fn of_readings() -> [Case; 2] {
-    [reading(), rereading()]
+pub fn of_readings() -> [Case; 3] {
+    [reading(), rereading(), round_tripping()]
 }
 
 pub fn of_halls() -> [Case; 1] {
@@ -289,6 +307,9 @@ pub fn check_reading(a: Asked) {
     let len = seqochanu::reread(a.sheet, &mut again);
     assert_eq!(len, Ok(a.sheet.len()), "{what}");
     assert_eq!(again, a.sheet, "{what}");
+    again.iter_mut().for_each(|byte| *byte = !*byte);
+    assert_eq!(roundtrip(a.sheet, &mut again), 0, "{what}");
+    assert_eq!(again, a.sheet, "{what}, by its song");
 }
 
 /// Stops where our list of a hall and that of plain C differ.
