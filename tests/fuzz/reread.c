@@ -1,4 +1,4 @@
-/* /* Gives bytes to seqochanu_reread with buffers of several lengths, and stops where an answer or a byte is not what
+/* Gives bytes to seqochanu_reread with buffers of several lengths, and stops where an answer or a byte is not what
  * document 02 says. Behind the sheet and behind the buffer a page follows that can be neither read nor written, so
  * that a touch there stops too. */
 #define _DEFAULT_SOURCE
