@@ -39,24 +39,25 @@ pub record Passes (bytes : List ℕ) : Type 0 where
   pub coded : coded bytes ≡ true
   pub within : within (songIn bytes) ≡ true
 
-by-tests : (a b : Bool) (v : Song) → cond a (cond b (record { outcome = Outcome.Done; song = v }) (readRefused Refusal.SheetValues)) (readRefused Refusal.SheetFields) .outcome ≡ Outcome.Done
-    → (a ≡ true) × (b ≡ true)
+-- what is read, by its two tests
+abbrev readBy : Bool → Bool → Song → Read
+readBy a b v = cond a (cond b (record { outcome = Outcome.Done; song = v }) (readRefused Refusal.SheetValues)) (readRefused Refusal.SheetFields)
+
+by-tests : (a b : Bool) (v : Song) → readBy a b v .outcome ≡ Outcome.Done → (a ≡ true) × (b ≡ true)
 by-tests true true v e = (refl, refl)
 by-tests true false v e = let z : _≡_ {A = ℕ} 0 1 = cc in absurd (omega arith)
 by-tests false b v e = let z : _≡_ {A = ℕ} 0 1 = cc in absurd (omega arith)
 
--- what is refused is zero throughout
 abbrev refusalIn : Outcome → Refusal
 refusalIn Outcome.Done = Refusal.SheetFields
 refusalIn (Outcome.Refused r) = r
 
-refused-by : (a b : Bool) (v : Song) (r : Refusal)
-    → cond a (cond b (record { outcome = Outcome.Done; song = v }) (readRefused Refusal.SheetValues)) (readRefused Refusal.SheetFields) .outcome ≡ Outcome.Refused r
-    → cond a (cond b (record { outcome = Outcome.Done; song = v }) (readRefused Refusal.SheetValues)) (readRefused Refusal.SheetFields) ≡ readRefused r
+refused-by : (a b : Bool) (v : Song) (r : Refusal) → readBy a b v .outcome ≡ Outcome.Refused r → readBy a b v ≡ readRefused r
 refused-by true true v r e = let z : _≡_ {A = ℕ} 0 1 = cc in absurd (omega arith)
 refused-by true false v r e = ap (λ (o : Outcome). readRefused (refusalIn o)) e
 refused-by false b v r e = ap (λ (o : Outcome). readRefused (refusalIn o)) e
 
+-- beside a refusal nothing stands
 pub read-refused : (bytes : List ℕ) (r : Refusal) → readOf bytes .outcome ≡ Outcome.Refused r → readOf bytes ≡ readRefused r
 unfolding readOf
 read-refused bytes r e = refused-by (formed bytes) (coded bytes && within (songIn bytes)) (songIn bytes) r e
@@ -75,7 +76,7 @@ passes-read bytes t = rw (t .formed, t .coded, t .within)
 pub read-song : (bytes : List ℕ) → readOf bytes .outcome ≡ Outcome.Done → readOf bytes .song ≡ songIn bytes
 read-song bytes done = ap (λ (r : Read). r .song) (passes-read bytes (passes bytes done))
 
-pub read-within : (bytes : List ℕ) → readOf bytes .outcome ≡ Outcome.Done → within (readOf bytes .song) ≡ true
+read-within : (bytes : List ℕ) → readOf bytes .outcome ≡ Outcome.Done → within (readOf bytes .song) ≡ true
 read-within bytes done = ap within (read-song bytes done) ∙ passes bytes done .within
 
 pub read-valid : (bytes : List ℕ) → readOf bytes .outcome ≡ Outcome.Done → valid (readOf bytes .song) ≡ true
