@@ -65,9 +65,11 @@ fn ours(style: u8) -> Style {
     Style::try_from(style).expect("both styles are asked for")
 }
 
-/// One way to do a case: it answers a number that tells its work.
+/// One way to do a case: it answers a number that tells its work. Where the sheets are to be at hand, each of their
+/// bytes is looked at before the side's turn.
 pub struct Side {
     pub name: &'static str,
+    pub at_hand: bool,
     pub run: Box<dyn FnMut(Asked) -> u64>,
 }
 
@@ -101,7 +103,11 @@ impl Case {
 
 fn side(name: &'static str, run: impl FnMut(Asked) -> u64 + 'static) -> Side {
     let run = Box::new(run);
-    Side { name, run }
+    Side {
+        name,
+        at_hand: false,
+        run,
+    }
 }
 
 /// Compose and arrange; every number of the song is summed, so that none can be left out.
@@ -212,13 +218,13 @@ fn rust_composing(name: &'static str) -> Side {
 }
 
 /// A case of sheets read, beside composing them.
-fn beside_composing(name: &'static str, reading: Side) -> Case {
+fn beside_composing(name: &'static str, at_hand: bool, reading: Side) -> Case {
     Case {
         name,
         styles: BOTH,
         batch: 20,
         sides: vec![
-            reading,
+            Side { at_hand, ..reading },
             composing("composing"),
             rust_composing("the Rust composing"),
         ],
@@ -226,12 +232,12 @@ fn beside_composing(name: &'static str, reading: Side) -> Case {
 }
 
 /// A sheet read and not written: a buffer of no bytes is refused only when the whole sheet is read.
-fn reading() -> Case {
+fn reading(name: &'static str, at_hand: bool) -> Case {
     let reading = |a: Asked| match black_box(seqochanu::reread(a.sheet, &mut [])) {
         Err(Refusal::ShortBuffer) => a.sheet.len() as u64,
         other => panic!("{other:?} for a song's sheet"),
     };
-    beside_composing("sheet read", side("reading", reading))
+    beside_composing(name, at_hand, side("reading", reading))
 }
 
 /// A sheet read, and what was read written again.
@@ -242,7 +248,7 @@ fn rereading() -> Case {
         black_box(&buf)[..len].len() as u64
     };
     let name = "sheet read and written again";
-    beside_composing(name, side("reading and writing", rereading))
+    beside_composing(name, true, side("reading and writing", rereading))
 }
 
 /// The refusal of a sheet that is read into a song, which the canonical writer then writes; 0 for none.
@@ -258,15 +264,17 @@ fn round_tripping() -> Case {
         black_box(&buf)[..a.sheet.len()].len() as u64
     };
     let name = "sheet read into a song, and the song written";
-    beside_composing(name, side("reading and writing", trip))
+    beside_composing(name, true, side("reading and writing", trip))
 }
 
 pub fn of_songs() -> [Case; 3] {
     [songs(), sheets(), pages()]
 }
 
-pub fn of_readings() -> [Case; 3] {
-    [reading(), rereading(), round_tripping()]
+pub fn of_readings() -> [Case; 4] {
+    let at_hand = reading("sheet read", true);
+    let from_memory = reading("sheet read from memory", false);
+    [at_hand, from_memory, rereading(), round_tripping()]
 }
 
 pub fn of_halls() -> [Case; 1] {

@@ -63,8 +63,8 @@ pub fn u64_at(bytes: &[u8], at: usize) -> u64
 }
 
 // Whether the f32 there is finite: not all bits of its exponent are set, the lower seven of its first byte and the
-// upper one of its second. The first byte alone tells it of a number from 0 up to 2 ^ 127, as nearly all of a sheet's
-// are.
+// upper one of its second. The first byte alone tells it of a number from 0 to below 2 ^ 127, as nearly all of a
+// sheet's are.
 pub fn finite_at(bytes: &[u8], at: usize) -> bool
     requires { ⌜ at + 4 ≤ length (now bytes) ⌝ }
     ensures { λ r. ⌜ r ≡ finite (f32At (now (bytes .entry)) at) ⌝ }

@@ -57,7 +57,7 @@ refused-by true true v r e = let z : _≡_ {A = ℕ} 0 1 = cc in absurd (omega a
 refused-by true false v r e = ap (λ (o : Outcome). readRefused (refusalIn o)) e
 refused-by false b v r e = ap (λ (o : Outcome). readRefused (refusalIn o)) e
 
--- beside a refusal nothing stands
+-- beside a refusal all is zero
 pub read-refused : (bytes : List ℕ) (r : Refusal) → readOf bytes .outcome ≡ Outcome.Refused r → readOf bytes ≡ readRefused r
 unfolding readOf
 read-refused bytes r e = refused-by (formed bytes) (coded bytes && within (songIn bytes)) (songIn bytes) r e

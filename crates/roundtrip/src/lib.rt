@@ -15,7 +15,7 @@ fn told(w: Written) -> u8
     ensures { λ r. ⌜ r ≡ toldOf w ⌝ }
 {
     match w {
-        Written::Bytes(n) => 0,
+        Written::Bytes(_) => 0,
         Written::Refused(r) => r.number(),
     }
 }

@@ -1,5 +1,5 @@
-//! The exported functions of the crates `probe`, `roundtrip` and `seqochanu` with their own numbers for answers, behind
-//! safe wrappers. A slice passes as a pointer and a length; no function asks more of its caller.
+//! The exported functions of the crates `probe`, `roundtrip` and `seqochanu` with their own numbers for answers,
+//! behind safe wrappers. A slice passes as a pointer and a length; no function asks more of its caller.
 
 use crate::compose::reach::form::Parts;
 use crate::seqochanu::raw::{
@@ -147,7 +147,7 @@ pub fn reread(sheet: &[u8], buf: &mut [u8]) -> i64 {
     unsafe { seqochanu_reread(read, count, buf.as_mut_ptr(), buf.len()) }
 }
 
-/// The length of the sheet, which is that of what is written, or minus the number of the refusal.
+/// Minus the number of the refusal, or the sheet's own length: the call says of what it wrote only that it did.
 pub fn roundtrip(sheet: &[u8], buf: &mut [u8]) -> i64 {
     let (read, count) = (sheet.as_ptr(), sheet.len());
     match unsafe { raw::roundtrip_sheet(read, count, buf.as_mut_ptr(), buf.len()) } {
