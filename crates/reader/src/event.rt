@@ -18,8 +18,8 @@ use pages::get::byte_in;
 use pages::get::f32_at;
 use pages::get::finite_at;
 
-// Whether the note there is in range. The first fault ends the test: five branches that are hardly ever taken cost half
-// of what five answers and their conjunction do.
+// Whether the note there is in range. The first fault ends the test: five branches that are hardly ever taken cost
+// half of what five answers and their conjunction do.
 fn note_passes(bytes: &[u8], at: usize) -> bool
     requires { ⌜ at + 14 ≤ length (now bytes) ⌝ }
     ensures { λ r. ⌜ r ≡ noteWithin (noteAt (now (bytes .entry)) at) ⌝ }
