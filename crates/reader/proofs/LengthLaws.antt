@@ -7,7 +7,7 @@ use borrow.Author.Tests.{eqb-true, eq-eqb}
 use lib.Dec.{eqb}
 use lib.ListN.{getD}
 use Rattle.reader.specs.Layout.{sizeAt, widths, least, lengthFits}
-use Rattle.reader.specs.Lengths.{Had, AllHad}
+use Rattle.reader.specs.Lengths.{Had}
 use Rattle.reader.specs.Song.{sheetOf}
 use Rattle.reader.specs.Tests.{allTo}
 use Rattle.reader.specs.Value.{valid, Typed}

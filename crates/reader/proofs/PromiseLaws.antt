@@ -39,7 +39,7 @@ answered : (o : Outcome) (x v : Song) → answerBy o x ≡ Gives v → (o ≡ Ou
 answered Outcome.Done x v e = (refl, ap (λ (a : Answer Song). given a x) e)
 answered (Outcome.Refused r) x v e = let z : _≡_ {A = ℕ} 0 1 = cc in absurd (omega arith)
 
-pub reads-told : (bytes : List ℕ) (v : Song) → Reads bytes v → (readOf bytes .outcome ≡ Outcome.Done) × (readOf bytes .song ≡ v)
+reads-told : (bytes : List ℕ) (v : Song) → Reads bytes v → (readOf bytes .outcome ≡ Outcome.Done) × (readOf bytes .song ≡ v)
 reads-told bytes v e = answered (readOf bytes .outcome) (readOf bytes .song) v e
 
 -- ---- what is written and read

@@ -11,9 +11,8 @@ use Rattle.reader.specs.Promise.{Octets, Made, ReadTells}
 use Rattle.reader.specs.Read.{readOf, readAnswered}
 use Rattle.reader.specs.Song.{songIn}
 use Rattle.reader.specs.Within.{within}
-use Rattle.reader.proofs.AskedLaws.{passes}
 use Rattle.reader.proofs.FieldsLaws.{formed-fields, fields-formed}
-use Rattle.reader.proofs.PromiseLaws.{reads-told, reader-promise, read-answers}
+use Rattle.reader.proofs.PromiseLaws.{reader-promise, read-answers}
 
 module _ (bytes : List ℕ) (octets : Octets bytes) where
   -- what is not refused for its fields is formed, so it is ten fields
@@ -34,9 +33,3 @@ module _ (bytes : List ℕ) (octets : Octets bytes) where
 
   pub read-tells : ReadTells bytes
   read-tells = record { fields = not-fields; values = not-made; given = λ m. reader-promise .back (m .v) bytes (m .makes) }
-
-  -- no two of the three meet: what the writer makes is read, so it is ten fields
-  pub made-fields : Made bytes → TenFields bytes
-  made-fields m =
-      let read = reader-promise .back (m .v) bytes (m .makes) in
-      formed-fields bytes octets (passes bytes (reads-told bytes (m .v) read .0) .formed)
