@@ -26,13 +26,14 @@ use Rattle.reader.specs.Layout.{sizeAt, widths, least, most, lengthFits}
 use Rattle.reader.specs.Lengths.{AllHad}
 use Rattle.reader.specs.Tests.{allTo}
 use Rattle.reader.specs.Within.{formWithin}
+use Rattle.reader.specs.Value.{Padded, ChordIn, NoteIn, HitIn, Value}
 use Rattle.reader.specs.declared.song.Song.{Song}
 use Rattle.reader.proofs.FitLaws.{Spans, length-spans, whole-size, one-size}
 use Rattle.reader.proofs.LayoutLaws.{size-is}
 use Rattle.reader.proofs.SongLaws.{StoredSong, fields, as-fields, name-stands, tempo-stands, chords-size, scale-size, lead-size, keys-size, hits-size, bass-size, ends-stand, bars-read}
 use Rattle.reader.proofs.TestLaws.{all-to-at}
 use Rattle.reader.proofs.TestedLaws.{form-told}
-use Rattle.reader.proofs.ValueLaws.{Filled, ChordIn, NoteIn, HitIn, Value, no-note-typed, no-hit-typed, value-valid, value-typed, value-stored}
+use Rattle.reader.proofs.ValueLaws.{no-note-typed, no-hit-typed, value-valid, value-typed, value-stored}
 
 -- what holds of each field
 of-ten : (P : ℕ → Type 0) → P 0 → P 1 → P 2 → P 3 → P 4 → P 5 → P 6 → P 7 → P 8 → P 9 → (k : ℕ) → k < 10 → P k
@@ -87,8 +88,8 @@ blankSong size = record {
   form = blankForm (size 9);
 }
 
-blank-filled : {A : Type 0} {P : A → Type 0} (d z : A) (cap n : ℕ) → n ≤ cap → P z → Filled P d z cap (replicate cap z) n
-blank-filled d z cap n few p = record {
+blank-padded : {A : Type 0} {P : A → Type 0} (d z : A) (cap n : ℕ) → n ≤ cap → P z → Padded P d z cap (replicate cap z) n
+blank-padded d z cap n few p = record {
   size = length-replicate cap z;
   few = few;
   used = λ i h. rw (getD-replicate cap i z d (omega arith)) p;
@@ -139,16 +140,16 @@ module _ (size : ℕ → ℕ) (fit : (k : ℕ) → k < 10 → lengthFits k (size
       record {
         bpm = tt;
         bpm-fits = ofBits-fits binary32 0;
-        chords = blank-filled pastChord noChord 8 8 (omega arith) no-chord-in;
-        lead = blank-filled pastNote noNote 56 (size 4 / 14) (lead-span .most) no-note-in;
-        keys = blank-filled pastNote noNote 128 (size 5 / 14) (keys-span .most) no-note-in;
-        hits = blank-filled pastHit noHit 98 (size 6 / 10) (hits-span .most) no-hit-in;
-        bass = blank-filled pastNote noNote 104 (size 7 / 14) (bass-span .most) no-note-in;
-        classes = blank-filled 0 0 6 (size 3) (omega (arith, classes-span .most)) (omega arith);
+        chords = blank-padded pastChord noChord 8 8 (omega arith) no-chord-in;
+        lead = blank-padded pastNote noNote 56 (size 4 / 14) (lead-span .most) no-note-in;
+        keys = blank-padded pastNote noNote 128 (size 5 / 14) (keys-span .most) no-note-in;
+        hits = blank-padded pastHit noHit 98 (size 6 / 10) (hits-span .most) no-hit-in;
+        bass = blank-padded pastNote noNote 104 (size 7 / 14) (bass-span .most) no-note-in;
+        classes = blank-padded 0 0 6 (size 3) (omega (arith, classes-span .most)) (omega arith);
         classes-least = omega (arith, classes-span .least);
         phrases = (parts .0, parts .1);
         parts = parts .2;
-        plays = blank-filled silent silent 64 (size 9) (omega (arith, bars-span .whole, bars-span .most)) tt;
+        plays = blank-padded silent silent 64 (size 9) (omega (arith, bars-span .whole, bars-span .most)) tt;
       }
 
   stored : StoredSong blank

@@ -21,8 +21,8 @@ use Rattle.composer.proofs.form.Arranged.{arranged-promise}
 use Rattle.pages.specs.Writable.{FiniteNote, FiniteHit, FiniteEvents}
 use Rattle.pages.proofs.WritableLaws.{writable}
 use Rattle.reader.specs.Composed.{composedSong}
-use Rattle.reader.specs.Value.{valid, Typed}
-use Rattle.reader.proofs.ValueLaws.{Filled, NoteIn, HitIn, Value, value-valid, value-typed}
+use Rattle.reader.specs.Value.{valid, Typed, Padded, NoteIn, HitIn, Value}
+use Rattle.reader.proofs.ValueLaws.{value-valid, value-typed}
 
 -- ---- one event
 note-value : (x : Note) → noteBar x ≤ 7 → x .midi ≤ 127 → PlainNote x → FiniteNote x → NoteIn x
@@ -38,9 +38,9 @@ hit-value : (x : Hit) → hitBar x ≤ 7 → PlainHit x → FiniteHit x → HitI
 hit-value x bar p finite = record { bar = omega arith; spare = p .spare; numbers = finite; typed = record { at = p .at-fits; gain = p .gain-fits } }
 
 -- ---- a lane
-lane-filled : {A : Type 0} {P : A → Type 0} {d none : A} {bar : A → ℕ} {cap : ℕ} {xs : List A} {n : ℕ} → Laid d none bar cap 7 xs n
-    → ((i : ℕ) → i < n → bar (getD xs i d) ≤ 7 → P (getD xs i d)) → Filled P d none cap xs n
-lane-filled l used = record { size = l .size; few = l .few; used = λ i h. used i h (l .rises .most i h); rest = l .rest }
+lane-padded : {A : Type 0} {P : A → Type 0} {d none : A} {bar : A → ℕ} {cap : ℕ} {xs : List A} {n : ℕ} → Laid d none bar cap 7 xs n
+    → ((i : ℕ) → i < n → bar (getD xs i d) ≤ 7 → P (getD xs i d)) → Padded P d none cap xs n
+lane-padded l used = record { size = l .size; few = l .few; used = λ i h. used i h (l .rises .most i h); rest = l .rest }
 
 -- ---- the song
 module _ (style : Style) (seed : ℕ) where
@@ -63,10 +63,10 @@ module _ (style : Style) (seed : ℕ) where
       used = λ b h. record { size = song .range .chord-size b h; notes = λ k j. omega (arith, song .range .chords b k h j .most) };
       rest = λ i h k. absurd (omega arith);
     };
-    lead = lane-filled (song .lanes .lead) (λ i h bar. note-value _ bar (omega (arith, song .range .lead i h .most)) (song .plain .lead i h) (numbers .lead i h));
-    keys = lane-filled (song .lanes .keys) (λ i h bar. note-value _ bar (omega (arith, song .range .keys i h .most)) (song .plain .keys i h) (numbers .keys i h));
-    hits = lane-filled (song .lanes .hits) (λ i h bar. hit-value _ bar (song .plain .hits i h) (numbers .hits i h));
-    bass = lane-filled (song .lanes .bass) (λ i h bar. note-value _ bar (omega (arith, song .range .bass i h .most)) (song .plain .bass i h) (numbers .bass i h));
+    lead = lane-padded (song .lanes .lead) (λ i h bar. note-value _ bar (omega (arith, song .range .lead i h .most)) (song .plain .lead i h) (numbers .lead i h));
+    keys = lane-padded (song .lanes .keys) (λ i h bar. note-value _ bar (omega (arith, song .range .keys i h .most)) (song .plain .keys i h) (numbers .keys i h));
+    hits = lane-padded (song .lanes .hits) (λ i h bar. hit-value _ bar (song .plain .hits i h) (numbers .hits i h));
+    bass = lane-padded (song .lanes .bass) (λ i h bar. note-value _ bar (omega (arith, song .range .bass i h .most)) (song .plain .bass i h) (numbers .bass i h));
     classes = record { size = song .scale-size; few = song .scale-most; used = λ k h. song .scale-classes k; rest = λ k h j. song .scale-rest k h };
     classes-least = song .scale-least;
     phrases = form .phrases;

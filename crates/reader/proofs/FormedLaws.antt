@@ -14,11 +14,12 @@ use Rattle.pages.specs.Bytes.{byteAt}
 use Rattle.reader.specs.Layout.{startAt, sizeAt, lengthFits, fieldFits, formed}
 use Rattle.reader.specs.Song.{songIn, sheetOf}
 use Rattle.reader.specs.Tests.{allTo}
+use Rattle.reader.specs.Value.{Value}
 use Rattle.reader.specs.declared.song.Song.{Song}
 use Rattle.reader.proofs.BarsLaws.{SongBars, song-bars}
 use Rattle.reader.proofs.LayoutLaws.{Stands, tag-is, size-is, last-end}
 use Rattle.reader.proofs.SongLaws.{StoredSong, fields, as-fields, name-stands, tempo-stands, chords-stand, scale-stands, lead-stands, keys-stand, hits-stand, bass-stands, ends-stand, plays-stand, chords-size, scale-size, lead-size, keys-size, hits-size, bass-size, bars-read, song-back}
-use Rattle.reader.proofs.ValueLaws.{Value, value-stored}
+use Rattle.reader.proofs.ValueLaws.{value-stored}
 
 -- ---- lengths that fit
 four-tests : (a b c d : Bool) → a ≡ true → b ≡ true → c ≡ true → d ≡ false → ((a && b) && (c && not d)) ≡ true

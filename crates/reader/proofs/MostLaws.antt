@@ -12,12 +12,11 @@ use Rattle.pages.proofs.SheetLaws.{chords-length, sheet-length}
 use Rattle.reader.specs.Layout.{formed}
 use Rattle.reader.specs.Read.{readOf, writeAsked, rereadAsked}
 use Rattle.reader.specs.Song.{songIn, sheetOf}
-use Rattle.reader.specs.Value.{valid, Typed}
+use Rattle.reader.specs.Value.{valid, Typed, Value}
 use Rattle.reader.specs.declared.song.Song.{Song}
 use Rattle.reader.proofs.ArrayLaws.{shaped-read}
 use Rattle.reader.proofs.AskedLaws.{asked-valid, passes, read-song, read-valid}
 use Rattle.reader.proofs.TestedLaws.{tested-value}
-use Rattle.reader.proofs.ValueLaws.{Value}
 
 module _ (v : Song) (p : Value v) where
   lanes : SizedLanes (v .score)

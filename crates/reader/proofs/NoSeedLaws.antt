@@ -17,13 +17,14 @@ use Rattle.reader.specs.Composed.{composedSong}
 use Rattle.reader.specs.Layout.{sizeAt}
 use Rattle.reader.specs.Promise.{NoSeed}
 use Rattle.reader.specs.Song.{sheetOf}
+use Rattle.reader.specs.Value.{Value}
 use Rattle.reader.specs.declared.song.Song.{Song}
 use Rattle.reader.proofs.BlankLaws.{blankSong, blank-value}
 use Rattle.reader.proofs.ComposedLaws.{composed-value}
 use Rattle.reader.proofs.LengthLaws.{shortest, shortest-fits}
 use Rattle.reader.proofs.PromiseLaws.{sheet-back}
 use Rattle.reader.proofs.SongLaws.{as-fields, hits-size}
-use Rattle.reader.proofs.ValueLaws.{Value, value-valid, value-typed, value-stored}
+use Rattle.reader.proofs.ValueLaws.{value-valid, value-typed, value-stored}
 
 -- how many bytes of hits a value's sheet has
 hits-bytes : (v : Song) → Value v → sizeAt (sheetOf v) 6 ≡ 10 * v .score .«hit_count»

@@ -40,6 +40,7 @@ use Rattle.pages.proofs.LaneLaws.{note-width, hit-width}
 use Rattle.reader.specs.Layout.{bodyAt, sizeAt}
 use Rattle.reader.specs.Codes.{voiceCoded, endCoded, outroCoded, playsCoded}
 use Rattle.reader.specs.Song.{noteAt, hitAt, notesAt, hitsAt, chordFrom, chordsFrom, scaleAt, noteCountIn, hitCountIn, scoreIn, playsFrom, formIn, songIn, sheetOf}
+use Rattle.reader.specs.Value.{Any}
 use Rattle.reader.specs.declared.song.Song.{Song}
 use Rattle.reader.proofs.EventLaws.{StoredNote, StoredHit, note-shifts, hit-shifts, note-back, hit-back, entries-back, bytes-back}
 use Rattle.reader.proofs.LayoutLaws.{Stands, size-is, read-body, read-first, stands-first, stands-next}
@@ -55,9 +56,6 @@ pub record Kept {A : Type 0} (P : A → Type 0) (z : A) (cap : ℕ) (xs : List A
 
 pub record StoredChord (c : Chord) : Type 0 where
   pub four : length (c .notes) ≡ 4
-
-abbrev pub Any : {A : Type 0} → A → Type 0
-Any x = Unit
 
 pub record StoredSong (v : Song) : Type 0 where
   pub bpm : Fits32 (v .score .bpm)

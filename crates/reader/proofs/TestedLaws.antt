@@ -26,14 +26,15 @@ use Rattle.composer.specs.declared.score.Score.{Score}
 use Rattle.pages.specs.Writable.{FiniteNote, FiniteHit, Writable}
 use Rattle.reader.specs.Cleared.{isZero, noteZero, hitZero, notesZero, hitsZero, scaleZero, playsZero, scoreZero, cleared}
 use Rattle.reader.specs.Codes.{playsCoded}
+use Rattle.reader.specs.Promise.{ValueTells}
 use Rattle.reader.specs.Tests.{allTo}
-use Rattle.reader.specs.Value.{valid, TypedNote, TypedHit, TypedLane, Shaped}
+use Rattle.reader.specs.Value.{valid, TypedNote, TypedHit, TypedLane, Shaped, Typed, Padded, Any, NoteIn, HitIn, ChordIn, Value}
 use Rattle.reader.specs.Within.{noteWithin, hitWithin, notesWithin, hitsWithin, chordWithin, chordsWithin, scaleWithin, formWithin, scoreWithin, within}
 use Rattle.reader.specs.declared.song.Song.{Song}
 use Rattle.reader.proofs.BarsLaws.{song-bars}
-use Rattle.reader.proofs.SongLaws.{Any, plays-back}
+use Rattle.reader.proofs.SongLaws.{plays-back}
 use Rattle.reader.proofs.TestLaws.{both, all-to-at}
-use Rattle.reader.proofs.ValueLaws.{Filled, NoteIn, HitIn, ChordIn, Value}
+use Rattle.reader.proofs.ValueLaws.{value-valid}
 
 yes : (t : Bool) → t ≡ true → T t
 yes t e = subst T (sym e) tt
@@ -188,9 +189,9 @@ past : {A : Type 0} (d : A) (xs : List A) (cap n : ℕ) (zero : A → Bool) → 
 past d xs cap n zero e i h k = ap (λ (t : Bool). t || zero (getD xs i d)) (sym (le-ltb i n h)) ∙ all-to-at (λ j. ltb j n || zero (getD xs j d)) cap e i k
 
 -- ---- whole lanes
-notes-filled : (xs : List Note) (cap n : ℕ) → TypedLane TypedNote pastNote cap xs → notesWithin xs cap n ≡ true → notesZero xs cap n ≡ true → Filled NoteIn pastNote noNote cap xs n
+notes-padded : (xs : List Note) (cap n : ℕ) → TypedLane TypedNote pastNote cap xs → notesWithin xs cap n ≡ true → notesZero xs cap n ≡ true → Padded NoteIn pastNote noNote cap xs n
 unfolding notesZero
-notes-filled xs cap n t ok zero =
+notes-padded xs cap n t ok zero =
     let used = notes-told xs cap n ok in
     record {
       size = t .size;
@@ -201,9 +202,9 @@ notes-filled xs cap n t ok zero =
       rest = λ i h k. note-blank (getD xs i pastNote) (t .each i k) (past pastNote xs cap n noteZero zero i h k);
     }
 
-hits-filled : (xs : List Hit) (cap n : ℕ) → TypedLane TypedHit pastHit cap xs → hitsWithin xs cap n ≡ true → hitsZero xs cap n ≡ true → Filled HitIn pastHit noHit cap xs n
+hits-padded : (xs : List Hit) (cap n : ℕ) → TypedLane TypedHit pastHit cap xs → hitsWithin xs cap n ≡ true → hitsZero xs cap n ≡ true → Padded HitIn pastHit noHit cap xs n
 unfolding hitsZero
-hits-filled xs cap n t ok zero =
+hits-padded xs cap n t ok zero =
     let used = hits-told xs cap n ok in
     record {
       size = t .size;
@@ -214,9 +215,9 @@ hits-filled xs cap n t ok zero =
       rest = λ i h k. hit-blank (getD xs i pastHit) (t .each i k) (past pastHit xs cap n hitZero zero i h k);
     }
 
-chords-filled : (cs : List Chord) → TypedLane (λ c. length (c .notes) ≡ 4) pastChord 8 cs → chordsWithin cs ≡ true → Filled ChordIn pastChord noChord 8 cs 8
+chords-padded : (cs : List Chord) → TypedLane (λ c. length (c .notes) ≡ 4) pastChord 8 cs → chordsWithin cs ≡ true → Padded ChordIn pastChord noChord 8 cs 8
 unfolding chordsWithin chordWithin
-chords-filled cs t ok = record {
+chords-padded cs t ok = record {
   size = t .size;
   few = omega arith;
   used = λ b h. record {
@@ -252,15 +253,15 @@ lanes-told s ok =
     let c = both lead keys (b .0) in
     (c .0, c .1, b .1, a .1)
 
-scale-filled : (s : Scale) → length (s .pcs) ≡ 6 → scaleWithin s ≡ true → scaleZero s ≡ true → Filled (λ c. c < 12) 0 0 6 (s .pcs) (s .n)
+scale-padded : (s : Scale) → length (s .pcs) ≡ 6 → scaleWithin s ≡ true → scaleZero s ≡ true → Padded (λ c. c < 12) 0 0 6 (s .pcs) (s .n)
 unfolding scaleZero
-scale-filled s size ok zero =
+scale-padded s size ok zero =
     let x = scale-told s ok in
     record { size = size; few = x .1; used = x .2; rest = λ i h k. eqb-true (getD (s .pcs) i 0) 0 (past 0 (s .pcs) 6 (s .n) (λ c. eqb c 0) zero i h k) }
 
-plays-filled : (f : Form) → length (f .plays) ≡ 64 → f .bars ≤ 64 → playsZero f ≡ true → Filled Any silent silent 64 (f .plays) (f .bars)
+plays-padded : (f : Form) → length (f .plays) ≡ 64 → f .bars ≤ 64 → playsZero f ≡ true → Padded Any silent silent 64 (f .plays) (f .bars)
 unfolding playsZero
-plays-filled f size few zero = record {
+plays-padded f size few zero = record {
   size = size;
   few = few;
   used = λ i h. tt;
@@ -278,14 +279,18 @@ tested-value v t ok =
     record {
       bpm = yes (finite (v .score .bpm)) (s .bpm);
       bpm-fits = t .bpm;
-      chords = chords-filled (v .score .«bar_chords») (t .chords) (s .chords);
-      lead = notes-filled (v .score .lead) 56 (v .score .«lead_count») (t .lead) (s .lead) (l .0);
-      keys = notes-filled (v .score .keys) 128 (v .score .«keys_count») (t .keys) (s .keys) (l .1);
-      hits = hits-filled (v .score .hits) 98 (v .score .«hit_count») (t .hits) (s .hits) (l .2);
-      bass = notes-filled (v .score .bass) 104 (v .score .«bass_count») (t .bass) (s .bass) (l .3);
-      classes = scale-filled (v .scale) (t .pcs) (w .1) (z .1);
+      chords = chords-padded (v .score .«bar_chords») (t .chords) (s .chords);
+      lead = notes-padded (v .score .lead) 56 (v .score .«lead_count») (t .lead) (s .lead) (l .0);
+      keys = notes-padded (v .score .keys) 128 (v .score .«keys_count») (t .keys) (s .keys) (l .1);
+      hits = hits-padded (v .score .hits) 98 (v .score .«hit_count») (t .hits) (s .hits) (l .2);
+      bass = notes-padded (v .score .bass) 104 (v .score .«bass_count») (t .bass) (s .bass) (l .3);
+      classes = scale-padded (v .scale) (t .pcs) (w .1) (z .1);
       classes-least = scale-told (v .scale) (w .1) .0;
       phrases = (f .0, f .1);
       parts = f .2;
-      plays = plays-filled (v .form) (t .plays) (song-bars (v .form) (f .0) (f .1) (f .2) .most) (z .2);
+      plays = plays-padded (v .form) (t .plays) (song-bars (v .form) (f .0) (f .1) (f .2) .most) (z .2);
     }
+
+-- and so the tests say no more and no less
+pub value-tells : (v : Song) → Typed v → ValueTells v
+value-tells v t = record { facts = tested-value v (t .shape); tests = value-valid v }

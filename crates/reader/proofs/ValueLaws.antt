@@ -3,74 +3,32 @@
 use mathlib.Core.Path.{_≡_, refl, ap, _∙_}
 use mathlib.Core.Bool.{Bool, true, false, _||_}
 use mathlib.Core.List.{List}
-use Prim.Native.Nat.{ℕ, _^_, _≤_, _<_}
+use Prim.Native.Nat.{ℕ, _^_, _<_}
 use borrow.Author.Tests.{ltb-true, ltb-false, lt-ltb, le-leb, eq-eqb}
-use lib.Dec.{T, eqb, ltb, leb}
+use lib.Dec.{eqb, ltb, leb}
 use lib.Ieee.{binary32, ofBits, toBits}
 use lib.Ieee.Bits.{ofBits-fits}
 use lib.Ieee.Scale.{finite}
 use lib.ListN.{length, getD}
 use Rattle.laws.proofs.Bools.{holds}
 use Rattle.laws.proofs.Sorts.{all-by}
-use Rattle.composer.specs.Chord.{pastChord, noChord}
 use Rattle.composer.specs.Form.{partsOf}
-use Rattle.composer.specs.Form.Plays.{bitsOf, silent}
-use Rattle.composer.specs.Note.{noNote, pastNote, noHit, pastHit}
-use Rattle.composer.specs.Plain.{Fits32}
+use Rattle.composer.specs.Form.Plays.{bitsOf}
+use Rattle.composer.specs.Note.{noNote, pastNote, noHit}
 use Rattle.composer.specs.declared.chord.Chord.{Chord}
 use Rattle.composer.specs.declared.note.Hit.{Hit}
 use Rattle.composer.specs.declared.note.Note.{Note}
-use Rattle.pages.specs.Writable.{FiniteNote, FiniteHit}
 use Rattle.reader.specs.Cleared.{noteZero, hitZero, notesZero, hitsZero, scaleZero, playsZero, scoreZero, cleared}
 use Rattle.reader.specs.Tests.{allTo}
-use Rattle.reader.specs.Value.{valid, TypedNote, TypedHit, TypedLane, Shaped, Typed}
+use Rattle.reader.specs.Value.{valid, TypedNote, TypedHit, TypedLane, Shaped, Typed, Padded, Any, NoteIn, HitIn, ChordIn, Value}
 use Rattle.reader.specs.Within.{noteWithin, hitWithin, notesWithin, hitsWithin, chordWithin, chordsWithin, scaleWithin, formWithin, scoreWithin, within}
 use Rattle.reader.specs.declared.song.Song.{Song}
 use Rattle.reader.proofs.EventLaws.{StoredNote, StoredHit}
-use Rattle.reader.proofs.SongLaws.{Kept, StoredChord, Any, StoredSong}
+use Rattle.reader.proofs.SongLaws.{Kept, StoredChord, StoredSong}
 use Rattle.reader.proofs.TestLaws.{all-to-by, pad-back}
 
--- ---- the facts
--- an array of `cap` entries: the first n as P says, the others z; d stands past its end
-pub record Filled {A : Type 0} (P : A → Type 0) (d z : A) (cap : ℕ) (xs : List A) (n : ℕ) : Type 0 where
-  pub size : length xs ≡ cap
-  pub few : n ≤ cap
-  pub used : (i : ℕ) → i < n → P (getD xs i d)
-  pub rest : (i : ℕ) → n ≤ i → i < cap → getD xs i d ≡ z
-
-pub record NoteIn (x : Note) : Type 0 where
-  pub bar : x .bar < 8
-  pub midi : x .midi ≤ 127
-  pub spare : x .spare ≡ 0
-  pub numbers : FiniteNote x
-  pub typed : TypedNote x
-
-pub record HitIn (x : Hit) : Type 0 where
-  pub bar : x .bar < 8
-  pub spare : x .spare ≡ 0
-  pub numbers : FiniteHit x
-  pub typed : TypedHit x
-
-pub record ChordIn (c : Chord) : Type 0 where
-  pub size : length (c .notes) ≡ 4
-  pub notes : (k : ℕ) → k < 4 → getD (c .notes) k 0 ≤ 127
-
-pub record Value (v : Song) : Type 0 where
-  pub bpm : T (finite (v .score .bpm))
-  pub bpm-fits : Fits32 (v .score .bpm)
-  pub chords : Filled ChordIn pastChord noChord 8 (v .score .«bar_chords») 8
-  pub lead : Filled NoteIn pastNote noNote 56 (v .score .lead) (v .score .«lead_count»)
-  pub keys : Filled NoteIn pastNote noNote 128 (v .score .keys) (v .score .«keys_count»)
-  pub hits : Filled HitIn pastHit noHit 98 (v .score .hits) (v .score .«hit_count»)
-  pub bass : Filled NoteIn pastNote noNote 104 (v .score .bass) (v .score .«bass_count»)
-  pub classes : Filled (λ c. c < 12) 0 0 6 (v .scale .pcs) (v .scale .n)
-  pub classes-least : 5 ≤ v .scale .n
-  pub phrases : (4 ≤ v .form .phrases) × (v .form .phrases ≤ 6)
-  pub parts : partsOf (v .form) ≡ v .form .bars
-  pub plays : Filled Any silent silent 64 (v .form .plays) (v .form .bars)
-
 -- ---- an array's tests
-module _ {A : Type 0} {P : A → Type 0} {d z : A} {cap : ℕ} {xs : List A} {n : ℕ} (f : Filled P d z cap xs n) where
+module _ {A : Type 0} {P : A → Type 0} {d z : A} {cap : ℕ} {xs : List A} {n : ℕ} (f : Padded P d z cap xs n) where
   used-pass : (p : A → Bool) → ((x : A) → P x → p x ≡ true) → allTo (λ i. p (getD xs i d)) n ≡ true
   used-pass p pass = all-to-by (λ i. p (getD xs i d)) n (λ i h. pass (getD xs i d) (f .used i h))
 
@@ -134,18 +92,18 @@ pub no-hit-typed : TypedHit noHit
 no-hit-typed = record { at = ofBits-fits binary32 0; gain = ofBits-fits binary32 0 }
 
 -- ---- a lane's
-notes-in : {cap n : ℕ} {xs : List Note} → Filled NoteIn pastNote noNote cap xs n → notesWithin xs cap n ≡ true
+notes-in : {cap n : ℕ} {xs : List Note} → Padded NoteIn pastNote noNote cap xs n → notesWithin xs cap n ≡ true
 unfolding notesWithin
 notes-in {cap} {n} f = rw (le-leb n cap (f .few)) (used-pass f noteWithin note-in)
 
-notes-zero : {cap n : ℕ} {xs : List Note} → Filled NoteIn pastNote noNote cap xs n → notesZero xs cap n ≡ true
+notes-zero : {cap n : ℕ} {xs : List Note} → Padded NoteIn pastNote noNote cap xs n → notesZero xs cap n ≡ true
 unfolding notesZero
 notes-zero f = rest-pass f noteZero no-note-zero
 
-notes-typed : {cap n : ℕ} {xs : List Note} → Filled NoteIn pastNote noNote cap xs n → TypedLane TypedNote pastNote cap xs
+notes-typed : {cap n : ℕ} {xs : List Note} → Padded NoteIn pastNote noNote cap xs n → TypedLane TypedNote pastNote cap xs
 notes-typed f = typed-lane f TypedNote (λ x p. p .typed) no-note-typed
 
-notes-kept : {cap n : ℕ} {xs : List Note} → Filled NoteIn pastNote noNote cap xs n → Kept StoredNote noNote cap xs n
+notes-kept : {cap n : ℕ} {xs : List Note} → Padded NoteIn pastNote noNote cap xs n → Kept StoredNote noNote cap xs n
 notes-kept f = kept f StoredNote (λ x p. record { at = p .typed .at; vel = p .typed .vel; dur = p .typed .dur; spare = p .spare })
 
 -- ---- the song's

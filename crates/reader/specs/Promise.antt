@@ -16,7 +16,7 @@ use Rattle.reader.specs.Fields.{TenFields}
 use Rattle.reader.specs.Layout.{formed}
 use Rattle.reader.specs.Read.{readOf, readAnswered, writeAsked, rereadAsked}
 use Rattle.reader.specs.Song.{songIn, sheetOf}
-use Rattle.reader.specs.Value.{valid, Typed}
+use Rattle.reader.specs.Value.{valid, Typed, Value}
 use Rattle.reader.specs.Within.{within}
 use Rattle.reader.specs.declared.song.Song.{Song}
 
@@ -42,6 +42,11 @@ pub record Taken (bytes : List ℕ) : Type 0 where
 pub record Made (bytes : List ℕ) : Type 0 where
   pub v : Song
   pub makes : Makes v bytes
+
+-- ---- which values: what the writer tests says no more and no less than the facts
+pub record ValueTells (v : Song) : Type 0 where
+  pub facts : valid v ≡ true → Value v
+  pub tests : Value v → valid v ≡ true
 
 -- ---- there and back
 pub record ReaderPromise : Type 0 where
