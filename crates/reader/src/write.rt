@@ -3,6 +3,7 @@ ghost use mathlib.Core.Bool.{true};
 ghost use mathlib.Core.Path.{_≡_};
 ghost use lib.ListN.{length};
 ghost use Rattle.pages.specs.Answer.{Writes, writtenOf, bufferOf};
+ghost use Rattle.reader.specs.Promise.{Octets};
 ghost use Rattle.reader.specs.Read.{writeAsked, rereadAsked};
 ghost use Rattle.reader.specs.Song.{sheetOf};
 ghost use Rattle.reader.specs.Value.{Typed};
@@ -48,10 +49,12 @@ pub fn write(v: Song, buf: &mut [u8]) -> Written
 
 // Reads a sheet and writes what was read again. These are the sheet's own bytes, so no song is made: the sheet is
 // tested where it stands, and copied. Refusals are the reader's, 7 and then 8, and then 2 for a buffer that is shorter
-// than the sheet; none of them writes anything.
+// than the sheet; none of them writes anything. Whatever the sheet, each of its bytes is below 256, as the theorem on
+// what is answered asks.
 pub fn reread(sheet: &[u8], buf: &mut [u8]) -> Written
     ensures { λ r. ⌜ r ≡ writtenOf (length (now (buf .entry))) (rereadAsked (now (sheet .entry))) ⌝ }
     ensures { λ r. ⌜ now (buf .exit) ≡ bufferOf (now (buf .entry)) (rereadAsked (now (sheet .entry))) ⌝ }
+    ensures { λ r. ⌜ Octets (now (sheet .entry)) ⌝ }
 {
     let l = layout_of(sheet);
     let outcome = outcome_of(sheet, l);

@@ -30,8 +30,9 @@ bytes-into-requires c κs = search needs
 returns : tie.Need-returns
 unfolding rereadAsked
 returns c =
-    let e = sym (c .before .before .before .outcome-of .ensures) ∙ c .before .outcome .given .1 in
-    (rw e, rw e)
+    let o = c .before .before .before in
+    let e = sym (o .outcome-of .ensures) ∙ c .before .outcome .given .1 in
+    (rw e, (rw e, octets (o .before .before .before)))
 
 same-length : tie.Need-same-length
 same-length c = search needs
@@ -42,7 +43,9 @@ returns-2 c =
     let s = m .before .before .before .before .before in
     let b = s .before .args .sheet .now in
     let done : readOf b .outcome ≡ Outcome.Done = sym (m .before .before .outcome-of .ensures) ∙ m .enum-told .given .1 in
-    rw (reread-done b (octets s) done) (c .before .before .bytes-into .ensures)
+    let e = reread-done b (octets s) done in
+    let w = c .before .before .bytes-into .ensures in
+    (rw e (w .0), (rw e (w .1), octets s))
 
 pub reread-spec : {M : Type 1} → statement M
 reread-spec =
