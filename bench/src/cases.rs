@@ -17,7 +17,8 @@ mod raw {
 
     #[link(name = "roundtrip", kind = "static")]
     unsafe extern "C" {
-        pub fn roundtrip_sheet(read: *const u8, count: usize, out: *mut u8, len: usize) -> u8;
+        pub fn roundtrip_sheet(sheet: *const u8, sheet_len: usize, buf: *mut u8, len: usize) -> u8;
+        pub fn roundtrip_read(sheet: *const u8, sheet_len: usize) -> u8;
     }
 
     // hall.c's
@@ -66,10 +67,11 @@ fn ours(style: u8) -> Style {
 }
 
 /// One way to do a case: it answers a number that tells its work. Where the sheets are to be at hand, each of their
-/// bytes is looked at before the side's turn.
+/// bytes is looked at before the side's turn. Instructions are counted but where another case has the same.
 pub struct Side {
     pub name: &'static str,
     pub at_hand: bool,
+    pub counted: bool,
     pub run: Box<dyn FnMut(Asked) -> u64>,
 }
 
@@ -106,6 +108,7 @@ fn side(name: &'static str, run: impl FnMut(Asked) -> u64 + 'static) -> Side {
     Side {
         name,
         at_hand: false,
+        counted: true,
         run,
     }
 }
@@ -217,16 +220,26 @@ fn rust_composing(name: &'static str) -> Side {
     })
 }
 
-/// A case of sheets read, beside composing them.
+/// A case of sheets read, beside composing them, which another case counts. A sheet from memory takes the same
+/// instructions as one at hand.
 fn beside_composing(name: &'static str, at_hand: bool, reading: Side) -> Case {
+    let uncounted = |side| Side {
+        counted: false,
+        ..side
+    };
+    let reading = Side {
+        at_hand,
+        counted: at_hand,
+        ..reading
+    };
     Case {
         name,
         styles: BOTH,
         batch: 20,
         sides: vec![
-            Side { at_hand, ..reading },
-            composing("composing"),
-            rust_composing("the Rust composing"),
+            reading,
+            uncounted(composing("composing")),
+            uncounted(rust_composing("the Rust composing")),
         ],
     }
 }
@@ -251,6 +264,20 @@ fn rereading() -> Case {
     beside_composing(name, true, side("reading and writing", rereading))
 }
 
+/// The refusal of a sheet that is read into a song; 0 for none.
+fn read(sheet: &[u8]) -> u8 {
+    unsafe { raw::roundtrip_read(sheet.as_ptr(), sheet.len()) }
+}
+
+/// A sheet read into a song.
+fn reading_a_song() -> Case {
+    let reading = |a: Asked| {
+        assert_eq!(black_box(read(a.sheet)), 0, "a song's sheet");
+        a.sheet.len() as u64
+    };
+    beside_composing("sheet read into a song", true, side("reading", reading))
+}
+
 /// The refusal of a sheet that is read into a song, which the canonical writer then writes; 0 for none.
 fn roundtrip(sheet: &[u8], buf: &mut [u8]) -> u8 {
     unsafe { raw::roundtrip_sheet(sheet.as_ptr(), sheet.len(), buf.as_mut_ptr(), buf.len()) }
@@ -271,10 +298,14 @@ pub fn of_songs() -> [Case; 3] {
     [songs(), sheets(), pages()]
 }
 
-pub fn of_readings() -> [Case; 4] {
-    let at_hand = reading("sheet read", true);
-    let from_memory = reading("sheet read from memory", false);
-    [at_hand, from_memory, rereading(), round_tripping()]
+pub fn of_readings() -> [Case; 5] {
+    [
+        reading("sheet read", true),
+        reading("sheet read from memory", false),
+        rereading(),
+        reading_a_song(),
+        round_tripping(),
+    ]
 }
 
 pub fn of_halls() -> [Case; 1] {

@@ -83,7 +83,8 @@ fn lists() {
 /// A line for each thing that can be counted: what `count` is told, then its name.
 fn sides() {
     for (i, case) in cases::all().enumerate() {
-        for (k, side) in case.sides.iter().enumerate() {
+        let sides = case.sides.iter().enumerate();
+        for (k, side) in sides.filter(|(_, side)| side.counted) {
             for &style in case.styles {
                 println!("{i} {k} {style} {}: {}", case.title(style), side.name);
             }

@@ -1,10 +1,10 @@
 // A sheet by way of its song, for tests and measurements: it is read into a song, and the canonical writer writes that
-// song. `seqochanu_reread` answers the same, and makes no song.
+// song. `seqochanu_reread` answers the same, and makes no song; reading alone is there to be timed.
 ghost use mathlib.Core.Path.{_≡_};
 ghost use lib.ListN.{length};
 ghost use Rattle.pages.specs.Answer.{writtenOf, bufferOf};
-ghost use Rattle.reader.specs.Read.{rereadAsked};
-ghost use Rattle.roundtrip.specs.Told.{toldOf};
+ghost use Rattle.reader.specs.Read.{readOf, rereadAsked};
+ghost use Rattle.roundtrip.specs.Told.{toldOf, toldBy};
 use composer::refusal::Outcome;
 use pages::answer::Written;
 use reader::read::read;
@@ -36,5 +36,19 @@ pub extern "C" fn roundtrip_sheet(sheet: &[u8], buf: &mut [u8]) -> u8
             let w = write(song, buf);
             told(w)
         }
+    }
+}
+
+// Reads a sheet, and answers 0, or the number of the refusal: 7, then 8. Nothing is asked of the song, which `read`
+// makes all the same: there are two callers, so the compiler keeps it whole, and bench/run looks whether it did.
+#[no_mangle]
+pub extern "C" fn roundtrip_read(sheet: &[u8]) -> u8
+    ensures { λ r. ⌜ r ≡ toldBy (readOf (now (sheet .entry)) .outcome) ⌝ }
+{
+    let r = read(sheet);
+    let outcome = r.outcome;
+    match outcome {
+        Outcome::Refused(x) => x.number(),
+        Outcome::Done => 0,
     }
 }
