@@ -1,5 +1,6 @@
 // What a line asks. The letters are said beside the data, in README.md.
 ghost use Prim.Native.Nat.{_≤_};
+use composer::refusal::Outcome;
 use halls::list::hall_list;
 use pages::answer::Written;
 use pages::page::bar_page;
@@ -14,7 +15,9 @@ use probe::kicks::probe_kicks;
 use probe::scores::probe_score;
 use probe::scores::probe_unbeaten;
 use probe::stages::probe_stage_seed;
+use reader::read::read;
 use reader::write::reread;
+use reader::write::write;
 use streams::mix::wrapping_mul_u64;
 use streams::unmix::undraw;
 
@@ -164,12 +167,39 @@ fn lesser(a: usize, b: usize) -> usize
     if a < b { a } else { b }
 }
 
+// A fold of what is read and written again, by the call that makes no song.
+fn copied_fold(bytes: &[u8]) -> u64 {
+    let mut buf = [0u8; 5164];
+    let written = reread(bytes, &mut buf);
+    written_fold(written, &buf)
+}
+
+// The same by the song that is read, as the canonical writer writes it.
+fn made_fold(bytes: &[u8]) -> u64 {
+    let r = read(bytes);
+    let outcome = r.outcome;
+    match outcome {
+        Outcome::Refused(x) => x.number() as u64,
+        Outcome::Done => {
+            let song = r.song;
+            let mut buf = [0u8; 5164];
+            let written = write(song, &mut buf);
+            written_fold(written, &buf)
+        }
+    }
+}
+
+// Both ways; where they differ, the answer is one that no line has.
+fn both_fold(bytes: &[u8]) -> u64 {
+    let copied = copied_fold(bytes);
+    let made = made_fold(bytes);
+    if copied == made { made } else { u64::MAX }
+}
+
 // A fold of what is read of the first n bytes, or of all if they are fewer, and written again.
 fn again_fold(bytes: &[u8], n: usize) -> u64 {
     let kept = lesser(n, bytes.len());
-    let mut buf = [0u8; 5164];
-    let written = reread(&bytes[..kept], &mut buf);
-    written_fold(written, &buf)
+    both_fold(&bytes[..kept])
 }
 
 // The sheet of a song, spoiled as `how` tells (README.md), read and written again.

@@ -8,35 +8,17 @@ use Rattle.replay.proofs.asked.again_fold.Tie as tie
 lesser-requires : tie.Need-lesser-requires
 lesser-requires c κs = search needs
 
-slice-aggregate-reread : tie.Need-slice-aggregate-reread
-slice-aggregate-reread c =
+slice-aggregate-both-fold : tie.Need-slice-aggregate-both-fold
+slice-aggregate-both-fold c =
     let s = c .before .before .before .args .bytes .now in
     let k = c .before .lesser in
     sym (length-take-le (k .result) s (k .ensures .1))
 
-slice-aggregate-reread-2 : tie.Need-slice-aggregate-reread-2
-slice-aggregate-reread-2 c = search needs
-
-reread-requires : tie.Need-reread-requires
-reread-requires c κs = search needs
-
-slice-aggregate-written-fold : tie.Need-slice-aggregate-written-fold
-slice-aggregate-written-fold c = search needs
-
-written-fold-requires : tie.Need-written-fold-requires
-written-fold-requires c κs = search needs
+both-fold-requires : tie.Need-both-fold-requires
+both-fold-requires c κs = search needs
 
 returns : tie.Need-returns
 returns c = search needs
 
 pub again-fold-spec : {M : Type 1} → statement M
-again-fold-spec =
-    tie.close
-    (tie.spec
-    lesser-requires
-    slice-aggregate-reread
-    slice-aggregate-reread-2
-    reread-requires
-    slice-aggregate-written-fold
-    written-fold-requires
-    returns)
+again-fold-spec = tie.close (tie.spec lesser-requires slice-aggregate-both-fold both-fold-requires returns)
