@@ -1,5 +1,5 @@
-/* The sheet and the bar page of a song, sheets read back, and the seeds of a hall's papers, as bytes in a buffer of the
- * caller's.
+/* The sheet and the bar page of a song, sheets read back, and the seeds of a hall's papers, as bytes in a buffer of
+ * the caller's.
  *
  * A song is named by a style, 0 hiphop or 1 sleep, and a 64-bit seed, which is its paper number. A hall list is named
  * by a 64-bit hall number and a count of seeds. Each function answers how many bytes it wrote, from buf[0] on, or
