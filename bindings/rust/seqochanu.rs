@@ -63,6 +63,8 @@ pub enum Refusal {
     UnknownStyle = 1,
     ShortBuffer = 2,
     NoSuchBar = 3,
+    /// given by `Sheet::to_bytes` alone
+    Malformed = 4,
     HallCount = 6,
     SheetFields = 7,
     SheetValues = 8,
@@ -74,6 +76,7 @@ impl fmt::Display for Refusal {
             Self::UnknownStyle => "no such style",
             Self::ShortBuffer => "the buffer is shorter than this sheet, page or list",
             Self::NoSuchBar => "the song has no such bar",
+            Self::Malformed => "no sheet has the value that is to be written",
             Self::HallCount => "the count is outside 1 to 4,096",
             Self::SheetFields => {
                 "a field of the sheet is missing, cut off, misplaced or trailing, or has a length that no \
@@ -88,7 +91,7 @@ impl fmt::Display for Refusal {
 
 impl Error for Refusal {}
 
-/// The bytes written, or the refusal, of a C function's answer.
+/// The bytes written, or the refusal, of a C function's answer. No C function refuses with 4 or 5.
 fn written(answer: i64) -> Result<usize, Refusal> {
     match answer {
         -1 => Err(Refusal::UnknownStyle),
@@ -97,7 +100,7 @@ fn written(answer: i64) -> Result<usize, Refusal> {
         -6 => Err(Refusal::HallCount),
         -7 => Err(Refusal::SheetFields),
         -8 => Err(Refusal::SheetValues),
-        count => Ok(usize::try_from(count).expect("no refusal has another number")),
+        count => Ok(usize::try_from(count).expect("no C function refuses with another number")),
     }
 }
 
@@ -352,6 +355,13 @@ mod tests {
             assert_eq!(refusal as i64, number);
             assert_eq!(written(-number), Err(refusal));
         }
+        assert_eq!(Refusal::Malformed as u8, 4);
         assert_eq!(written(17), Ok(17));
+    }
+
+    #[test]
+    #[should_panic(expected = "no C function refuses with another number")]
+    fn a_c_function_never_refuses_with_4() {
+        let _ = written(-4);
     }
 }

@@ -136,13 +136,13 @@ impl Sheet {
 
     /// The sheet's bytes, from which `parse` gives this value again.
     ///
-    /// A value that no sheet has is refused as its bytes are when they are read: with `SheetFields` where a list has a
-    /// length that no sheet's has, such as 57 lead notes or 62 bars, and else with `SheetValues`, such as for a bar 8,
-    /// a NaN, or bars that are not as many as intro, phrases and outro make.
+    /// A value that no sheet has is refused with `Malformed`: one with 57 lead notes or 62 bars, say, with a bar 8 or
+    /// a NaN, or with bars that are not as many as intro, phrases and outro make. No other refusal is given.
     pub fn to_bytes(&self) -> Result<Vec<u8>, Refusal> {
         let laid = self.laid_out();
         let mut bytes = vec![0; laid.len()];
-        reread(&laid, &mut bytes)?;
+        // there is room for what is read, so the refusal is the reader's, which finds no sheet in these bytes
+        reread(&laid, &mut bytes).map_err(|_| Refusal::Malformed)?;
         Ok(bytes)
     }
 

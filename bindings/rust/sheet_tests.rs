@@ -1,8 +1,12 @@
-//! Sheets read back: songs' own, sheets made by hand, and bytes that are none.
+//! Sheets read back: songs' own, and bytes and values that are no sheet's. sheet_values_tests.rs, which uses the
+//! sheets that are made here, tests what each byte means.
 
 use super::super::tests::{marked, songs};
 use super::super::{raw, sheet_vec};
 use super::*;
+
+#[path = "sheet_values_tests.rs"]
+mod values;
 
 const SILENT: Plays = Plays {
     pad: false,
@@ -123,12 +127,17 @@ fn refused(bytes: &[u8], refusal: Refusal) {
     assert_eq!(Sheet::parse(bytes), Err(refusal));
 }
 
-/// A bare sheet with this change is refused so, and gives no bytes.
+/// No sheet has this value: it is not written, and the bytes that it would have are refused so.
+fn unwritten(sheet: &Sheet, refusal: Refusal) {
+    assert_eq!(sheet.to_bytes(), Err(Refusal::Malformed), "{sheet:?}");
+    refused(&sheet.laid_out(), refusal);
+}
+
+/// A bare sheet with this change is not written, and its bytes are refused so.
 fn refused_with(refusal: Refusal, change: impl FnOnce(&mut Sheet)) {
     let mut sheet = bare();
     change(&mut sheet);
-    assert_eq!(sheet.to_bytes(), Err(refusal), "{sheet:?}");
-    refused(&sheet.laid_out(), refusal);
+    unwritten(&sheet, refusal);
 }
 
 #[test]
@@ -140,104 +149,6 @@ fn the_sheet_of_a_song_is_read_and_laid_out_again() {
         assert_eq!((sheet.style, sheet.seed), (style, seed));
         assert_eq!(sheet.to_bytes(), Ok(bytes));
     }
-}
-
-#[test]
-fn what_is_read_is_what_the_format_says() {
-    // the sheet that docs/EXAMPLE.md takes apart
-    let sheet = Sheet::parse(&sheet_vec(Style::Sleep, 2350)).unwrap();
-    assert_eq!(sheet.voice, Voice::EpVel);
-    assert_eq!(sheet.tempo, 76.0);
-    assert_eq!(sheet.chords[1], [50, 53, 57, 60]);
-    assert_eq!(sheet.scale, [10, 0, 2, 5, 7, 9]);
-    assert_eq!((sheet.lead.len(), sheet.keys.len()), (4, 5));
-    assert_eq!((sheet.hits.len(), sheet.bass.len()), (50, 18));
-    let lead = Note {
-        bar: 1,
-        time: f32::from_bits(0x408b4902),
-        midi: 79,
-        velocity: f32::from_bits(0x3e7d7a94),
-        duration: 2.2,
-    };
-    assert_eq!(sheet.lead[1], lead);
-    let snare = Hit {
-        bar: 0,
-        kind: Drum::Snare,
-        time: f32::from_bits(0x3f4ce9de),
-        gain: f32::from_bits(0x3ecb186f),
-    };
-    assert_eq!(sheet.hits[2], snare);
-    assert_eq!((sheet.keys[0].midi, sheet.bass[0].midi), (48, 39));
-    let form = &sheet.form;
-    assert_eq!((form.intro.kind, form.intro.bars), (EndingKind::Fade, 4));
-    assert_eq!((form.phrases, form.dip), (4, false));
-    assert_eq!(
-        (form.outro.kind, form.outro.bars),
-        (EndingKind::RingsOut, 2)
-    );
-    assert_eq!(form.bars.len(), 38);
-    let no_bass = Plays {
-        pad: true,
-        keys: true,
-        drums: true,
-        bass: false,
-    };
-    assert_eq!(form.bars[24], no_bass);
-    let pad = Plays {
-        pad: true,
-        ..SILENT
-    };
-    assert_eq!(form.bars[36..], [pad, SILENT]);
-}
-
-#[test]
-fn a_sheet_made_by_hand_is_laid_out_and_read() {
-    let mut sheets = vec![bare(), full()];
-    for phrases in 4..=6 {
-        for outro in endings() {
-            for intro in endings() {
-                if intro.kind != EndingKind::RingsOut {
-                    sheets.push(formed(intro, phrases, outro));
-                }
-            }
-        }
-    }
-    for (voice, kind) in VOICES.into_iter().zip(DRUMS) {
-        // a style's songs have some of the voices, its sheets may have any
-        for style in [Style::Hiphop, Style::Sleep] {
-            let hits = vec![Hit { kind, ..HIT }];
-            sheets.push(Sheet {
-                style,
-                voice,
-                hits,
-                ..bare()
-            });
-        }
-    }
-    // what no song has: bars that fall along a lane, and a note twice
-    let lead = vec![NOTE, Note { bar: 0, ..NOTE }, NOTE, NOTE];
-    sheets.push(Sheet { lead, ..bare() });
-    for sheet in sheets {
-        let bytes = sheet.to_bytes().unwrap();
-        let read = Sheet::parse(&bytes).unwrap();
-        assert_eq!(read, sheet);
-        // equal to the last bit, for which `==` does not look
-        assert_eq!(read.laid_out(), bytes);
-    }
-    assert_eq!(bare().to_bytes().unwrap().len(), 119);
-    assert_eq!(full().to_bytes().unwrap().len(), SHEET_MOST);
-}
-
-#[test]
-fn a_negative_zero_stays_one() {
-    let sheet = Sheet::parse(&bare().to_bytes().unwrap()).unwrap();
-    assert_eq!(sheet.tempo.to_bits(), 0x8000_0000);
-    let zero = Sheet {
-        tempo: 0.0,
-        ..bare()
-    };
-    assert_eq!(zero, bare());
-    assert_ne!(zero.to_bytes(), bare().to_bytes());
 }
 
 #[test]
@@ -322,12 +233,17 @@ fn a_value_out_of_range_is_refused() {
     refused_with(values, |s| s.lead = vec![Note { bar: 8, ..NOTE }]);
     refused_with(values, |s| s.bass = vec![Note { midi: 128, ..NOTE }]);
     refused_with(values, |s| s.hits = vec![Hit { bar: 8, ..HIT }]);
-    // codes that the types here have not: style, voice, a hit's kind, endings, dip, a bar's plays
+}
+
+#[test]
+fn a_code_that_the_types_have_not_is_refused() {
+    let values = Refusal::SheetValues;
     let hit = Sheet {
         hits: vec![HIT],
         ..bare()
     };
     refused(&with(&hit, 73, 4), values);
+    // of style, voice, endings, dip and a bar's plays
     let codes = [
         (3, 2),
         (12, 4),
@@ -353,7 +269,7 @@ fn bars_that_the_form_does_not_make_are_refused() {
         bars: 8,
     };
     for sheet in [formed(fade, 3, fade), formed(COLD, 7, fade)] {
-        assert_eq!(sheet.to_bytes(), Err(values));
+        unwritten(&sheet, values);
     }
     for kind in ENDINGS {
         for bars in [0, 1, 2, 4, 6, 8] {
@@ -363,12 +279,12 @@ fn bars_that_the_form_does_not_make_are_refused() {
                 let mut sheet = formed(COLD, 4, ending);
                 // an odd number of bars would be a fault in the fields
                 sheet.form.bars.resize(32 + usize::from(bars & !1), SILENT);
-                refused(&sheet.laid_out(), values);
+                unwritten(&sheet, values);
             }
             if !fits || kind == EndingKind::RingsOut {
                 let mut sheet = formed(ending, 4, COLD);
                 sheet.form.bars.resize(32 + usize::from(bars & !1), SILENT);
-                assert_eq!(sheet.to_bytes(), Err(values));
+                unwritten(&sheet, values);
             }
         }
     }
