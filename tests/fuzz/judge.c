@@ -13,8 +13,10 @@ enum entry { FIRST, OTHER, LAST, ENTRIES };
 #define PARTS 6
 
 /* The place of this input's first fault. libFuzzer reads and clears this section as it does the compiler's counters.
- * */
+ * Where COUNTED is defined already (reader.c), the fuzzer is not to see it. */
+#ifndef COUNTED
 #define COUNTED __attribute__((section("__libfuzzer_extra_counters")))
+#endif
 COUNTED static uint8_t faults[FIELDS + 1][FAULTS];
 COUNTED static uint8_t values[FIELDS][PARTS][ENTRIES];
 
