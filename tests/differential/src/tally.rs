@@ -32,12 +32,17 @@ pub struct Tally {
 
 impl Tally {
     /// One value more. Where the two differ, says the input and both values and ends with status 1.
-    pub fn same<T: PartialEq + Debug>(&mut self, input: impl FnOnce() -> String, rust: T, ours: T) {
+    pub fn same<T: PartialEq + Debug>(
+        &mut self,
+        input: impl FnOnce() -> String,
+        wanted: T,
+        ours: T,
+    ) {
         self.compared += 1;
-        if rust != ours {
+        if wanted != ours {
             // the lock is kept to the end, so that the other thread adds no half a line
             let _lock = std::io::stdout().lock();
-            println!("{}: the Rust has {rust:?}, ours has {ours:?}", input());
+            println!("{}: wanted {wanted:?}, ours has {ours:?}", input());
             std::process::exit(1);
         }
     }
@@ -47,20 +52,20 @@ impl Tally {
         &mut self,
         what: impl Fn() -> String,
         name: impl Fn(usize) -> String,
-        rust: &[u64],
+        wanted: &[u64],
         ours: &[u64],
     ) {
-        assert_eq!(rust.len(), ours.len(), "both sides have as many words");
-        for (k, (r, o)) in rust.iter().zip(ours).enumerate() {
-            self.same(|| format!("{} of {}", name(k), what()), r, o);
+        assert_eq!(wanted.len(), ours.len(), "both sides have as many words");
+        for (k, (w, o)) in wanted.iter().zip(ours).enumerate() {
+            self.same(|| format!("{} of {}", name(k), what()), w, o);
         }
     }
 
     /// Bytes more, each by its place.
-    pub fn same_bytes(&mut self, what: impl Fn() -> String, rust: &[u8], ours: &[u8]) {
-        assert_eq!(rust.len(), ours.len(), "both sides have as many bytes");
-        for (k, (r, o)) in rust.iter().zip(ours).enumerate() {
-            self.same(|| format!("byte {k} of {}", what()), r, o);
+    pub fn same_bytes(&mut self, what: impl Fn() -> String, wanted: &[u8], ours: &[u8]) {
+        assert_eq!(wanted.len(), ours.len(), "both sides have as many bytes");
+        for (k, (w, o)) in wanted.iter().zip(ours).enumerate() {
+            self.same(|| format!("byte {k} of {}", what()), w, o);
         }
     }
 
@@ -73,16 +78,16 @@ impl Tally {
     }
 
     /// A run of draws more: each value, and the counter afterwards.
-    pub fn same_run(&mut self, input: impl Fn() -> String, rust: &Run, ours: &Run) {
+    pub fn same_run(&mut self, input: impl Fn() -> String, wanted: &Run, ours: &Run) {
         assert_eq!(
-            rust.values.len(),
+            wanted.values.len(),
             ours.values.len(),
             "both sides were asked for as many"
         );
-        for (i, (r, o)) in rust.values.iter().zip(&ours.values).enumerate() {
-            self.same(|| format!("{}, draw {}", input(), i + 1), r, o);
+        for (i, (w, o)) in wanted.values.iter().zip(&ours.values).enumerate() {
+            self.same(|| format!("{}, draw {}", input(), i + 1), w, o);
         }
         let counter = || format!("{}, the counter afterwards", input());
-        self.same(counter, rust.counter, ours.counter);
+        self.same(counter, wanted.counter, ours.counter);
     }
 }
