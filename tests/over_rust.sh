@@ -14,8 +14,8 @@ find_rust() {
     fi
 }
 
-# lay_rust ROOM: puts the Rust's files into ROOM, and what drivers over them share. The Rust's files keep their text; one
-# module line behind it reaches what is private there.
+# lay_rust ROOM: puts the Rust's files into ROOM, and what drivers over them share. The Rust's files keep their text;
+# one module line behind it reaches what is private there.
 lay_rust() {
     mkdir -p "$1/compose"
     cp -r tests/differential/src/reach tests/differential/src/synth.rs "$1"

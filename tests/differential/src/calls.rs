@@ -8,11 +8,13 @@ pub type Asked<'a> = Result<&'a [u8], i64>;
 /// How many places behind the buffer are looked at.
 const BEHIND: usize = 16;
 
-/// A call with a buffer of `len` places: its answer, the buffer, and what lies behind it.
+/// A call with a buffer of `len` places: its answer, the buffer, and what lies behind it. `might` is what could come
+/// there, also by the mistake of a call that has to refuse.
 pub fn compare_call(
     tally: &mut Tally,
     what: impl Fn() -> String,
     asked: Asked,
+    might: &[u8],
     len: usize,
     call: impl FnOnce(&mut [u8]) -> i64,
 ) {
@@ -21,9 +23,10 @@ pub fn compare_call(
         Ok(_) => (-2, &[][..]),
         Err(number) => (-number, &[][..]),
     };
-    // before the call no place has the byte that may come there, so that each write shows
+    // before the call each place has the complement of the byte that might come there, so that each write of it
+    // shows; where it is not known what might come, a byte that goes by the place
     let mut wanted: Vec<u8> = (0..len + BEHIND).map(|i| 0x55 ^ i as u8).collect();
-    for (place, byte) in wanted.iter_mut().zip(asked.unwrap_or_default()) {
+    for (place, byte) in wanted.iter_mut().zip(might) {
         *place = !byte;
     }
     let mut places = wanted.clone();

@@ -65,6 +65,7 @@ fn compare_list(tally: &mut Tally, hall: u64, count: u64, len: usize) {
         tally,
         || name(hall, count),
         asked,
+        asked.unwrap_or_default(),
         len,
         |buf| ours::hall_list(hall, count, buf),
     );

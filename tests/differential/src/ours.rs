@@ -41,7 +41,8 @@ mod raw {
         pub fn probe_kicks(style: u8, seed: u64, out: *mut u64, len: usize);
         pub fn probe_made_kicks(words: *const u64, count: usize, out: *mut u64, len: usize);
         pub fn probe_counters(style: u8, seed: u64, out: *mut u64, len: usize) -> i64;
-        pub fn roundtrip_sheet(read: *const u8, count: usize, out: *mut u8, len: usize) -> u8;
+        pub fn roundtrip_sheet(sheet: *const u8, sheet_len: usize, buf: *mut u8, len: usize) -> u8;
+        pub fn roundtrip_read(sheet: *const u8, sheet_len: usize) -> u8;
     }
 }
 
@@ -143,15 +144,20 @@ pub fn hall_list(hall: u64, count: u64, buf: &mut [u8]) -> i64 {
 }
 
 pub fn reread(sheet: &[u8], buf: &mut [u8]) -> i64 {
-    let (read, count) = (sheet.as_ptr(), sheet.len());
-    unsafe { seqochanu_reread(read, count, buf.as_mut_ptr(), buf.len()) }
+    let (sheet, sheet_len) = (sheet.as_ptr(), sheet.len());
+    unsafe { seqochanu_reread(sheet, sheet_len, buf.as_mut_ptr(), buf.len()) }
 }
 
 /// Minus the number of the refusal, or the sheet's own length: the call says of what it wrote only that it did.
 pub fn roundtrip(sheet: &[u8], buf: &mut [u8]) -> i64 {
-    let (read, count) = (sheet.as_ptr(), sheet.len());
-    match unsafe { raw::roundtrip_sheet(read, count, buf.as_mut_ptr(), buf.len()) } {
-        0 => count as i64,
+    let (sheet, sheet_len) = (sheet.as_ptr(), sheet.len());
+    match unsafe { raw::roundtrip_sheet(sheet, sheet_len, buf.as_mut_ptr(), buf.len()) } {
+        0 => sheet_len as i64,
         number => -i64::from(number),
     }
+}
+
+/// The number of the refusal, 0 for none, of a sheet that is read into a song and not written.
+pub fn read(sheet: &[u8]) -> u8 {
+    unsafe { raw::roundtrip_read(sheet.as_ptr(), sheet.len()) }
 }

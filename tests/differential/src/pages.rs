@@ -10,12 +10,16 @@ use crate::{ours, sample, songs};
 
 fn sheet_call(tally: &mut Tally, style: u8, seed: u64, asked: Asked, len: usize) {
     let what = || format!("the sheet of {seed:#x} in style {style}");
-    compare_call(tally, what, asked, len, |buf| ours::sheet(style, seed, buf));
+    let might = asked.unwrap_or_default();
+    compare_call(tally, what, asked, might, len, |buf| {
+        ours::sheet(style, seed, buf)
+    });
 }
 
 fn page_call(tally: &mut Tally, style: u8, seed: u64, bar: u64, asked: Asked, len: usize) {
     let what = || format!("page {bar} of {seed:#x} in style {style}");
-    compare_call(tally, what, asked, len, |buf| {
+    let might = asked.unwrap_or_default();
+    compare_call(tally, what, asked, might, len, |buf| {
         ours::bar_page(style, seed, bar, buf)
     });
 }

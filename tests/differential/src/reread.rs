@@ -11,55 +11,66 @@ use crate::bytes::{SHEET_MOST, sheet_of};
 use crate::calls::compare_call;
 use crate::tally::Tally;
 use crate::{ours, songs};
-use faults::{Fault, faulty, structure_faults, value_faults};
+use faults::{Fault, faulty, sheets_by_two, structure_faults, value_faults};
 use judge::judge;
-use sheets::{COUNTS_MOST, Draws, Sheet};
+use sheets::{Bodies, COUNTS_MOST, Draws};
 
-/// Bytes read and written again into a buffer of `len` places: by the call for C, which makes no song, and by the
-/// reader's song and the canonical writer.
-fn compare_judged(tally: &mut Tally, what: impl Fn() -> String, bytes: &[u8], len: usize) {
-    let asked = judge(bytes).map(|()| bytes);
-    let back = || format!("{}, read back", what());
-    compare_call(tally, back, asked, len, |buf| ours::reread(bytes, buf));
-    let by_song = || format!("{}, read back by its song", what());
-    compare_call(tally, by_song, asked, len, |buf| {
-        ours::roundtrip(bytes, buf)
-    });
+/// Bytes read into a song alone, and read and written again into a buffer of each of these lengths: by the call for C,
+/// which makes no song, and by the reader's song and the canonical writer. What might be written are the bytes, also
+/// where they are refused: a copy that is made before the refusal has to show.
+fn compare_judged(
+    tally: &mut Tally,
+    what: impl Fn() -> String,
+    bytes: &[u8],
+    lens: impl IntoIterator<Item = usize>,
+) {
+    let judged = judge(bytes);
+    let read = || format!("the refusal of {}, read alone", what());
+    tally.same(read, judged.err().unwrap_or(0), ours::read(bytes).into());
+    let asked = judged.map(|()| bytes);
+    for len in lens {
+        let back = || format!("{}, read back", what());
+        compare_call(tally, back, asked, bytes, len, |buf| {
+            ours::reread(bytes, buf)
+        });
+        let by_song = || format!("{}, read back by its song", what());
+        compare_call(tally, by_song, asked, bytes, len, |buf| {
+            ours::roundtrip(bytes, buf)
+        });
+    }
 }
 
 /// A sheet, into buffers with room to spare, just as long and a byte short.
 fn compare_sound(tally: &mut Tally, what: impl Fn() -> String + Copy, sheet: &[u8]) {
     assert_eq!(judge(sheet), Ok(()), "{} is a sheet", what());
     let n = sheet.len();
-    for len in [n + 40, n, n - 1] {
-        compare_judged(tally, what, sheet, len);
-    }
+    compare_judged(tally, what, sheet, [n + 40, n, n - 1]);
 }
 
-/// Bytes that are refused by this number, into a buffer of as many places and into one of none: the refusal comes
-/// before that of a short buffer.
+/// Bytes that are refused by this number, into a buffer with room to spare, into one of as many places and into one of
+/// none: the refusal comes before that of a short buffer. For more bytes than a sheet can have, the buffers are those
+/// for the longest sheet.
 fn compare_refused(tally: &mut Tally, what: impl Fn() -> String + Copy, bytes: &[u8], number: i64) {
     assert_eq!(judge(bytes), Err(number), "{}", what());
-    for len in [bytes.len().min(SHEET_MOST), 0] {
-        compare_judged(tally, what, bytes, len);
-    }
+    let n = bytes.len().min(SHEET_MOST);
+    compare_judged(tally, what, bytes, [n + 40, n, 0]);
 }
 
 /// A sheet with one fault.
-fn compare_fault(tally: &mut Tally, sheet: &Sheet, fault: &Fault) {
+fn compare_fault(tally: &mut Tally, sheet: &Bodies, fault: &Fault) {
     let what = || format!("{fault:?} in {:x?}", sheet.bytes());
     compare_refused(tally, what, &faulty(sheet, &[fault]), fault.number());
 }
 
-/// A sheet with two faults: 7 if either is of the fields, wherever the two stand.
-fn compare_faults(tally: &mut Tally, sheet: &Sheet, two: [&Fault; 2]) {
+/// A sheet with two faults: 7 if either is of the fields, wherever the two stand, unless they make a sheet again.
+fn compare_faults(tally: &mut Tally, sheet: &Bodies, two: [&Fault; 2]) {
     let bytes = faulty(sheet, &two);
     let what = || format!("{two:?} in {:x?}", sheet.bytes());
     // 7 comes before 8
     let number = two[0].number().min(two[1].number());
-    // two may undo each other, as a length that is one more and then one less
-    if bytes != sheet.bytes() {
-        compare_refused(tally, what, &bytes, number);
+    match sheets_by_two(sheet).contains(&bytes) {
+        true => compare_sound(tally, what, &bytes),
+        false => compare_refused(tally, what, &bytes, number),
     }
 }
 
@@ -92,7 +103,7 @@ pub fn compare_seed(tally: &mut Tally, seed: u64) {
         for _ in 0..3 {
             let bytes = flipped(draws, &sheet);
             let what = || format!("{}, now {bytes:x?}", what());
-            compare_judged(tally, what, &bytes, SHEET_MOST);
+            compare_judged(tally, what, &bytes, [SHEET_MOST]);
         }
     }
 }
@@ -101,7 +112,7 @@ pub fn compare_seed(tally: &mut Tally, seed: u64) {
 const FAULTS: usize = 24;
 
 /// Some of the faults that a sheet can have.
-fn compare_some(tally: &mut Tally, draws: &mut Draws, sheet: &Sheet) {
+fn compare_some(tally: &mut Tally, draws: &mut Draws, sheet: &Bodies) {
     let (values, structure) = (value_faults(sheet), structure_faults(sheet));
     for _ in 0..FAULTS {
         let (a, b) = (draws.one_of(&values), draws.one_of(&structure));

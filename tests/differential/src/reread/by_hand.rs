@@ -2,7 +2,7 @@
 //! agree with anything whatever.
 
 use super::judge::judge;
-use super::sheets::Sheet;
+use super::sheets::Bodies;
 
 /// A sheet with one event in each lane, and no intro and no outro around its 32 bars, each line with the place of its
 /// first byte. Numbers that no song has are in it: a negative tempo, a negative zero, subnormal numbers, the largest.
@@ -207,13 +207,13 @@ pub fn assert_judged() {
         assert_eq!(said, wanted, "the sheet by hand, from {at} on {bytes:x?}");
     }
     for (tag, len, wanted) in RESIZED {
-        let mut sheet = Sheet::of(&sheet);
+        let mut sheet = Bodies::of(&sheet);
         sheet.set(tag, vec![0; len]);
         let said = said(&sheet.bytes());
         assert_eq!(said, wanted, "{len} zeros in {tag:#x} of the sheet by hand");
     }
     for (shape, bars, wanted) in SHAPED {
-        let mut sheet = Sheet::of(&sheet);
+        let mut sheet = Bodies::of(&sheet);
         sheet.set(0x09, shape.to_vec());
         sheet.set(0x0a, vec![15; bars]);
         let said = said(&sheet.bytes());

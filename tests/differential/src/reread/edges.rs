@@ -3,7 +3,7 @@
 
 use super::faults::{Fault, faulty, structure_faults, value_faults};
 use super::judge::{FIELDS, VALUES};
-use super::sheets::{COUNTS_MOST, Draws, LANES, Shape, Sheet};
+use super::sheets::{Bodies, COUNTS_MOST, Draws, Shape};
 use super::{
     by_hand, compare_fault, compare_faults, compare_judged, compare_refused, compare_sound,
 };
@@ -25,12 +25,12 @@ const RINGING: Shape = Shape {
 };
 
 /// The sheet by hand.
-fn short() -> Sheet {
-    Sheet::of(&by_hand::bytes())
+fn short() -> Bodies {
+    Bodies::of(&by_hand::bytes())
 }
 
 /// The sheet with as many events and bars as one can have, and a scale of six.
-fn longest() -> Sheet {
+fn longest() -> Bodies {
     let mut sheet = Draws::of(1).sheet(COUNTS_MOST, LONG);
     sheet.set(0x04, vec![11, 0, 2, 5, 7, 9]);
     assert_eq!(sheet.bytes().len(), SHEET_MOST, "no sheet is longer");
@@ -38,7 +38,7 @@ fn longest() -> Sheet {
 }
 
 /// The sheet by hand with another song in it.
-fn reshaped(shape: Shape, bars: usize) -> Sheet {
+fn reshaped(shape: Shape, bars: usize) -> Bodies {
     let mut sheet = short();
     sheet.set(0x09, shape.body());
     sheet.set(0x0a, vec![15; bars]);
@@ -86,19 +86,19 @@ fn compare_plays(tally: &mut Tally) {
     }
 }
 
-fn all_faults(sheet: &Sheet) -> Vec<Fault> {
+fn all_faults(sheet: &Bodies) -> Vec<Fault> {
     [value_faults(sheet), structure_faults(sheet)].concat()
 }
 
 /// Each fault at each place of a sheet.
-fn compare_each(tally: &mut Tally, sheet: &Sheet) {
+fn compare_each(tally: &mut Tally, sheet: &Bodies) {
     for fault in all_faults(sheet) {
         compare_fault(tally, sheet, &fault);
     }
 }
 
 /// Each two faults at once.
-fn compare_pairs(tally: &mut Tally, sheet: &Sheet) {
+fn compare_pairs(tally: &mut Tally, sheet: &Bodies) {
     let all = all_faults(sheet);
     for (i, a) in all.iter().enumerate() {
         for b in &all[i + 1..] {
@@ -116,28 +116,28 @@ fn compare_cut(tally: &mut Tally, bytes: &[u8]) {
 }
 
 /// A sheet with each value out of range, cut off at each length behind that value and before it.
-fn compare_cut_bad(tally: &mut Tally, sheet: &Sheet) {
+fn compare_cut_bad(tally: &mut Tally, sheet: &Bodies) {
     for fault in value_faults(sheet) {
         compare_cut(tally, &faulty(sheet, &[&fault]));
     }
 }
 
 /// Each byte at each place of a sheet.
-fn compare_bytes(tally: &mut Tally, sheet: &Sheet) {
+fn compare_bytes(tally: &mut Tally, sheet: &Bodies) {
     let mut bytes = sheet.bytes();
     for at in 0..bytes.len() {
         let before = bytes[at];
         for byte in 0..=255 {
             bytes[at] = byte;
             let what = || format!("{bytes:x?}");
-            compare_judged(tally, what, &bytes, bytes.len());
+            compare_judged(tally, what, &bytes, [bytes.len()]);
         }
         bytes[at] = before;
     }
 }
 
 /// Each sign and exponent, with mantissas at their limits, in each number of a sheet.
-fn compare_floats(tally: &mut Tally, sheet: &Sheet) {
+fn compare_floats(tally: &mut Tally, sheet: &Bodies) {
     let mantissas = [0, 1, 0x3f_ffff, 0x40_0000, 0x7f_ffff];
     let notes = [0x05, 0x06, 0x08].map(|tag| [1, 6, 10].map(|at| (tag, at)));
     let others = [(0x02, 0), (0x07, 2), (0x07, 6)];
@@ -149,20 +149,20 @@ fn compare_floats(tally: &mut Tally, sheet: &Sheet) {
             sheet.set(tag, body);
             let bytes = sheet.bytes();
             let what = || format!("{bytes:x?}");
-            compare_judged(tally, what, &bytes, bytes.len());
+            compare_judged(tally, what, &bytes, [bytes.len()]);
         }
     }
 }
 
 /// Each number of events that a lane can have, and more than it can.
 fn compare_counts(tally: &mut Tally) {
-    for (i, lane) in LANES.into_iter().enumerate() {
-        for count in 0..=2 * lane.most {
+    for (i, most) in COUNTS_MOST.into_iter().enumerate() {
+        for count in 0..=2 * most {
             let mut counts = [1; 4];
             counts[i] = count;
             let bytes = Draws::of(count as u64).sheet(counts, RINGING).bytes();
             let what = || format!("a sheet with {counts:?} events");
-            match count <= lane.most {
+            match count <= most {
                 true => compare_sound(tally, what, &bytes),
                 false => compare_refused(tally, what, &bytes, FIELDS),
             }
@@ -195,10 +195,8 @@ fn compare_long(tally: &mut Tally, sheet: &[u8]) {
 
 /// Every buffer that is too short for a sheet, and some that are longer.
 fn compare_buffers(tally: &mut Tally, sheet: &[u8]) {
-    for len in (0..=sheet.len() + 20).chain([SHEET_MOST, 70_000]) {
-        let what = || format!("{sheet:x?}");
-        compare_judged(tally, what, sheet, len);
-    }
+    let lens = (0..=sheet.len() + 20).chain([SHEET_MOST, 70_000]);
+    compare_judged(tally, || format!("{sheet:x?}"), sheet, lens);
 }
 
 /// All of these, over sheets of few events, the longest one and those of a seed.

@@ -2,7 +2,7 @@
 //! it.
 
 use super::judge::{FIELDS, VALUES};
-use super::sheets::{LANES, Lane, Shape, Sheet};
+use super::sheets::{Bodies, EVENT_FIELDS, EventField, Shape};
 use crate::bytes::field;
 use std::collections::BTreeSet;
 
@@ -17,6 +17,9 @@ const NO_NUMBERS: [u32; 8] = [
     0x7fff_ffff,
     0xffff_ffff,
 ];
+
+/// Bytes that stray in front of a field, one at a time. A scale can have each for a class.
+const STRAY: [u8; 2] = [0, 1];
 
 /// What is wrong with a field, which is named by the tag that it has in a sound sheet.
 #[derive(Clone, Debug)]
@@ -46,6 +49,8 @@ enum What {
     Swapped(u8),
     /// Behind all others.
     Last,
+    /// In its place, and once more behind all others.
+    Again,
 }
 
 /// A field on its way into bytes: the tag by which faults name it, and what is written.
@@ -107,7 +112,7 @@ impl Fault {
             What::Length(more) => part.length = part.length.wrapping_add(*more),
             What::Before(bytes) => part.before = bytes.clone(),
             What::Behind(bytes) => part.behind = bytes.clone(),
-            What::Missing | What::Doubled | What::Swapped(_) | What::Last => {}
+            What::Missing | What::Doubled | What::Swapped(_) | What::Last | What::Again => {}
         }
     }
 
@@ -126,13 +131,14 @@ impl Fault {
                 }
             }
             What::Last => parts[at..].rotate_left(1),
+            What::Again => parts.push(parts[at].clone()),
             _ => {}
         }
     }
 }
 
 /// The sheet's bytes with these faults, one after the other.
-pub fn faulty(sheet: &Sheet, faults: &[&Fault]) -> Vec<u8> {
+pub fn faulty(sheet: &Bodies, faults: &[&Fault]) -> Vec<u8> {
     let bodies = (0x01..).zip(&sheet.0);
     let mut parts: Vec<Part> = bodies.map(|(tag, body)| Part::new(tag, body)).collect();
     for fault in faults {
@@ -140,6 +146,22 @@ pub fn faulty(sheet: &Sheet, faults: &[&Fault]) -> Vec<u8> {
     }
     let fields: Vec<Vec<u8>> = parts.iter().map(Part::bytes).collect();
     fields.concat()
+}
+
+/// The sheets that two faults can make of a sheet. They may undo each other, as a length that is one more and then one
+/// less. And where the length of a scale of five classes is one more, a stray byte behind it is the sixth class; no
+/// other field can be a byte longer.
+pub fn sheets_by_two(sheet: &Bodies) -> Vec<Vec<u8>> {
+    let mut all = vec![sheet.bytes()];
+    let scale = sheet.body(0x04);
+    if scale.len() == 5 {
+        all.extend(STRAY.map(|class| {
+            let mut six = sheet.clone();
+            six.set(0x04, [&scale[..], &[class]].concat());
+            six.bytes()
+        }));
+    }
+    all
 }
 
 fn fault(of: u8, what: What) -> Fault {
@@ -162,16 +184,17 @@ fn floats_at(all: &mut Vec<Fault>, of: u8, places: &[usize]) {
     }
 }
 
-/// Values out of range in each event of a lane.
-fn lane_values(all: &mut Vec<Fault>, lane: Lane, body: &[u8]) {
-    for at in (0..body.len()).step_by(lane.width) {
-        bytes_at(all, lane.tag, at, &[8, 128, 255]);
-        if lane.tag == 0x07 {
-            bytes_at(all, lane.tag, at + 1, &[4, 5, 128, 255]);
-            floats_at(all, lane.tag, &[at + 2, at + 6]);
+/// Values out of range in each event of a field.
+fn event_values(all: &mut Vec<Fault>, events: EventField, body: &[u8]) {
+    let EventField { tag, width, .. } = events;
+    for at in (0..body.len()).step_by(width) {
+        bytes_at(all, tag, at, &[8, 128, 255]);
+        if tag == 0x07 {
+            bytes_at(all, tag, at + 1, &[4, 5, 128, 255]);
+            floats_at(all, tag, &[at + 2, at + 6]);
         } else {
-            bytes_at(all, lane.tag, at + 5, &[128, 255]);
-            floats_at(all, lane.tag, &[at + 1, at + 6, at + 10]);
+            bytes_at(all, tag, at + 5, &[128, 255]);
+            floats_at(all, tag, &[at + 1, at + 6, at + 10]);
         }
     }
 }
@@ -196,7 +219,7 @@ fn shape_values(all: &mut Vec<Fault>, body: &[u8]) {
 }
 
 /// Each kind of value out of range at each place of this sheet; and last fields of other songs.
-pub fn value_faults(sheet: &Sheet) -> Vec<Fault> {
+pub fn value_faults(sheet: &Bodies) -> Vec<Fault> {
     let mut all = Vec::new();
     bytes_at(&mut all, 0x01, 0, &[2, 3, 128, 255]);
     bytes_at(&mut all, 0x01, 9, &[4, 5, 128, 255]);
@@ -207,8 +230,8 @@ pub fn value_faults(sheet: &Sheet) -> Vec<Fault> {
     for at in 0..sheet.body(0x04).len() {
         bytes_at(&mut all, 0x04, at, &[12, 128, 255]);
     }
-    for lane in LANES {
-        lane_values(&mut all, lane, sheet.body(lane.tag));
+    for events in EVENT_FIELDS {
+        event_values(&mut all, events, sheet.body(events.tag));
     }
     shape_values(&mut all, sheet.body(0x09));
     let plays = sheet.body(0x0a);
@@ -223,8 +246,8 @@ pub fn value_faults(sheet: &Sheet) -> Vec<Fault> {
 
 /// Lengths that no sheet's field of this tag has.
 fn no_lengths(tag: u8) -> Vec<usize> {
-    let lane = LANES.into_iter().find(|lane| lane.tag == tag);
-    if let Some(Lane { most, width, .. }) = lane {
+    let events = EVENT_FIELDS.into_iter().find(|events| events.tag == tag);
+    if let Some(EventField { most, width, .. }) = events {
         let full = most * width;
         let beside = [1, width - 1, width + 1, 2 * width - 1, full - 1, full + 1];
         // counted in one byte, some of these are few events
@@ -252,25 +275,28 @@ fn more(len: u16) -> BTreeSet<u16> {
     all.filter(|&more| more != 0).collect()
 }
 
-/// The faults of one field: tag, length, body, a field too many in front of it, and its place among the others.
-fn field_faults(all: &mut Vec<Fault>, sheet: &Sheet, of: u8) {
+/// The faults of one field: tag, length, body, a field or a byte too many in front of it, and its place among the
+/// others.
+fn field_faults(all: &mut Vec<Fault>, sheet: &Bodies, of: u8) {
     let tags = [0, of - 1, of + 1, of + 16, of | 0x80, 0x7f, 0xff];
     let lengths = more(sheet.body(of).len() as u16);
-    let extra = [0, 0x0b, 0x7f].map(|tag| What::Before(field(tag, &[])));
+    let extra = [0, 0x0b, 0x7f].map(|tag| field(tag, &[]));
+    let stray = STRAY.map(|byte| vec![byte]);
     let what = (BTreeSet::from(tags).into_iter().map(What::Tag))
         .chain(lengths.into_iter().map(What::Length))
         .chain(no_lengths(of).into_iter().map(What::Body))
-        .chain(extra)
+        .chain(extra.into_iter().chain(stray).map(What::Before))
         .chain([What::Missing, What::Doubled])
         .chain((of + 1..=0x0a).map(What::Swapped));
     all.extend(what.map(|what| fault(of, what)));
+    // the last field stands behind all others as it is, and twice there is doubled
     if of < 0x0a {
-        all.push(fault(of, What::Last));
+        all.extend([What::Last, What::Again].map(|what| fault(of, what)));
     }
 }
 
 /// Each kind of fault of the fields at each place of this sheet.
-pub fn structure_faults(sheet: &Sheet) -> Vec<Fault> {
+pub fn structure_faults(sheet: &Bodies) -> Vec<Fault> {
     let mut all = Vec::new();
     for of in 0x01..=0x0a {
         field_faults(&mut all, sheet, of);
@@ -278,9 +304,6 @@ pub fn structure_faults(sheet: &Sheet) -> Vec<Fault> {
     let again = field(0x0a, sheet.body(0x0a));
     for bytes in [&[0], &[1], &[0x0a, 0, 0][..], &[0x0b, 0, 0], &again] {
         all.push(fault(0x0a, What::Behind(bytes.to_vec())));
-    }
-    for bytes in [[0], [1]] {
-        all.push(fault(0x01, What::Before(bytes.to_vec())));
     }
     all
 }

@@ -21,27 +21,30 @@ const ODD: [u32; 11] = [
     0x8000_0001,
 ];
 
-/// The tag of each lane, the most events that it may have and how many bytes an event has.
+/// The field of a lane's events: its tag, the most events that it may have and how many bytes an event has.
 #[derive(Clone, Copy)]
-pub struct Lane {
+pub struct EventField {
     pub tag: u8,
     pub most: usize,
     pub width: usize,
 }
 
-const fn lane(tag: u8, most: usize, width: usize) -> Lane {
-    Lane { tag, most, width }
+const fn event_field(tag: u8, most: usize, width: usize) -> EventField {
+    EventField { tag, most, width }
 }
 
-pub const LANES: [Lane; 4] = [
-    lane(0x05, 56, 14),
-    lane(0x06, 128, 14),
-    lane(0x07, 98, 10),
-    lane(0x08, 104, 14),
+pub const EVENT_FIELDS: [EventField; 4] = [
+    event_field(0x05, 56, 14),
+    event_field(0x06, 128, 14),
+    event_field(0x07, 98, 10),
+    event_field(0x08, 104, 14),
 ];
 
 /// As many events as the lanes can have.
-pub const COUNTS_MOST: [usize; 4] = [LANES[0].most, LANES[1].most, LANES[2].most, LANES[3].most];
+pub const COUNTS_MOST: [usize; 4] = {
+    let [lead, keys, hits, bass] = EVENT_FIELDS;
+    [lead.most, keys.most, hits.most, bass.most]
+};
 
 /// Each intro by its code and its bars.
 const INTROS: [(u8, u8); 7] = [(0, 0), (1, 4), (1, 8), (2, 4), (2, 8), (3, 4), (3, 8)];
@@ -103,13 +106,13 @@ impl Shape {
 
 /// A sheet by the bodies of its fields, 0x01 first.
 #[derive(Clone)]
-pub struct Sheet(pub [Vec<u8>; 10]);
+pub struct Bodies(pub [Vec<u8>; 10]);
 
-impl Sheet {
+impl Bodies {
     /// The sheet of these bytes, which are known to be one.
-    pub fn of(bytes: &[u8]) -> Sheet {
+    pub fn of(bytes: &[u8]) -> Bodies {
         let mut rest = bytes;
-        Sheet(std::array::from_fn(|_| {
+        Bodies(std::array::from_fn(|_| {
             let end = 3 + usize::from(u16::from_be_bytes([rest[1], rest[2]]));
             let body = rest[3..end].to_vec();
             rest = &rest[end..];
@@ -184,7 +187,7 @@ impl Draws {
         [&[bar, kind], &self.float()[..], &self.float()].concat()
     }
 
-    fn lane(&mut self, tag: u8, count: usize) -> Vec<u8> {
+    fn events(&mut self, tag: u8, count: usize) -> Vec<u8> {
         let event = if tag == 0x07 { Self::hit } else { Self::note };
         (0..count).flat_map(|_| event(self)).collect()
     }
@@ -199,19 +202,19 @@ impl Draws {
     }
 
     /// A sheet with so many events in its lanes and a song of this shape; the rest is drawn.
-    pub fn sheet(&mut self, counts: [usize; 4], shape: Shape) -> Sheet {
+    pub fn sheet(&mut self, counts: [usize; 4], shape: Shape) -> Bodies {
         let (style, seed, voice) = (self.byte_below(2), self.word(), self.byte_below(4));
         let [lead, keys, hits, bass] = counts;
         let scale = 5 + self.below(2);
-        Sheet([
+        Bodies([
             [&[style], &seed.to_be_bytes()[..], &[voice]].concat(),
             self.float().to_vec(),
             self.bytes_below(32, 128),
             self.bytes_below(scale, 12),
-            self.lane(0x05, lead),
-            self.lane(0x06, keys),
-            self.lane(0x07, hits),
-            self.lane(0x08, bass),
+            self.events(0x05, lead),
+            self.events(0x06, keys),
+            self.events(0x07, hits),
+            self.events(0x08, bass),
             shape.body(),
             self.bytes_below(shape.bars(), 16),
         ])
