@@ -32,6 +32,15 @@ pub asked-other : (v : Song) → valid v ≡ false → writeAsked v ≡ Declines
 unfolding writeAsked
 asked-other v e = rw e
 
+written-by : (t : Bool) (written bytes : List ℕ) → cond t (Writes written) (Declines Refusal.Malformed) ≡ Writes bytes → t ≡ true
+written-by true written bytes e = refl
+written-by false written bytes e = let z : _≡_ {A = ℕ} 0 1 = cc in absurd (omega arith)
+
+-- nothing else is written
+pub writes-valid : (v : Song) (bytes : List ℕ) → writeAsked v ≡ Writes bytes → valid v ≡ true
+unfolding writeAsked
+writes-valid v bytes e = written-by (valid v) (sheetOf v) bytes e
+
 -- ---- the reader
 -- the bytes pass its tests
 pub record Passes (bytes : List ℕ) : Type 0 where

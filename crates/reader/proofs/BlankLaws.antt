@@ -25,8 +25,8 @@ use Rattle.composer.specs.declared.voice.LeadVoice.{LeadVoice}
 use Rattle.reader.specs.Layout.{sizeAt, widths, least, most, lengthFits}
 use Rattle.reader.specs.Lengths.{AllHad}
 use Rattle.reader.specs.Tests.{allTo}
-use Rattle.reader.specs.Within.{formWithin}
 use Rattle.reader.specs.Value.{Padded, ChordIn, NoteIn, HitIn, Value}
+use Rattle.reader.specs.Within.{formWithin}
 use Rattle.reader.specs.declared.song.Song.{Song}
 use Rattle.reader.proofs.FitLaws.{Spans, length-spans, whole-size, one-size}
 use Rattle.reader.proofs.LayoutLaws.{size-is}

@@ -23,7 +23,7 @@ use Rattle.reader.specs.Within.{within}
 use Rattle.reader.specs.declared.song.Song.{Song}
 use Rattle.reader.proofs.AgainLaws.{sheet-again}
 use Rattle.reader.proofs.ArrayLaws.{typed-read}
-use Rattle.reader.proofs.AskedLaws.{asked-valid, asked-other, Passes, passes, passes-read, read-song, read-valid}
+use Rattle.reader.proofs.AskedLaws.{asked-valid, asked-other, writes-valid, Passes, passes, passes-read, read-song, read-valid}
 use Rattle.reader.proofs.ComposedLaws.{composed-valid, composed-typed}
 use Rattle.reader.proofs.FormedLaws.{sheet-formed, song-read}
 use Rattle.reader.proofs.KnownLaws.{sheet-coded}
@@ -53,11 +53,11 @@ sheet-back v t ok =
     ap readAnswered (passes-read (sheetOf v) (sheet-passes v t ok))
     ∙ ap (λ (x : Song). Gives x) (song-read v (tested-value v (t .shape) ok))
 
-made-bytes : (v : Song) (bytes : List ℕ) → Makes v bytes → sheetOf v ≡ bytes
-made-bytes v bytes m = ap bytesOf (sym (asked-valid v (m .valid)) ∙ m .asked)
-
 back : (v : Song) (bytes : List ℕ) → Makes v bytes → Reads bytes v
-back v bytes m = rw (← made-bytes v bytes m) (sheet-back v (m .typed) (m .valid))
+back v bytes m =
+    let ok = writes-valid v bytes (m .asked) in
+    let same : sheetOf v ≡ bytes = ap bytesOf (sym (asked-valid v ok) ∙ m .asked) in
+    rw (← same) (sheet-back v (m .typed) ok)
 
 -- ---- what is read and written again
 read-bytes : (bytes : List ℕ) → Octets bytes → readOf bytes .outcome ≡ Outcome.Done → sheetOf (readOf bytes .song) ≡ bytes
@@ -71,7 +71,6 @@ again v bytes octets e =
     let ok = ap valid (sym (t .1)) ∙ read-valid bytes (t .0) in
     record {
       typed = rw (← t .1, read-song bytes (t .0)) (typed-read bytes (passes bytes (t .0) .formed) octets);
-      valid = ok;
       asked = asked-valid v ok ∙ ap (λ (x : Song). Writes (sheetOf x)) (sym (t .1)) ∙ ap Writes (read-bytes bytes octets (t .0));
     }
 

@@ -31,7 +31,6 @@ Reads bytes v = readAnswered (readOf bytes) ≡ Gives v
 -- the canonical writer takes v, a value of the code's types, and makes these bytes of it
 pub record Makes (v : Song) (bytes : List ℕ) : Type 0 where
   pub typed : Typed v
-  pub valid : valid v ≡ true
   pub asked : writeAsked v ≡ Writes bytes
 
 -- of some value
