@@ -1,13 +1,15 @@
 -- Where a conversion or a division is exact, and the order of exact values. Assumes nothing.
-use mathlib.Core.Path.{_≡_, sym, ap, _∙_, subst}
-use Prim.Native.Nat.{ℕ, zero, suc, _*_, _^_, _≤_, _<_}
-use native.Mathlib.Nat.{lt-of-not-le, not-le-of-lt, le-of-eq, zero-mul, mul-comm, mul-assoc, mul-left-comm, mul-mul-mul-comm, mul-pos}
+use mathlib.Core.Path.{_≡_, sym, ap, ap₂, _∙_, subst}
+use Prim.Native.Nat.{ℕ, zero, suc, _+_, _-_, _*_, _^_, _≤_, _<_}
+use native.Mathlib.Nat.{lt-of-not-le, not-le-of-lt, le-of-eq, le-of-lt, lt-of-lt-of-le, zero-lt-suc, zero-mul, mul-one, mul-comm, mul-assoc, mul-left-comm, mul-mul-mul-comm, mul-pos}
+use native.Mathlib.Omega.{arith}
 use mathlib.Core.Bool.{Bool, true, false, cond, true≢false}
 use lib.IntN.{pos}
 use lib.Dec.{T, eqb, eqb·suc-zero, le→leb, lt→ltb}
+use lib.Pow.{pow-add, pow-pos, pow-mono, shl-lt}
 use lib.Ieee.{Float, nan, inf, fin, Format, binary32, up, down, round, div, ofInt, inFloat, lt}
 use lib.Ieee.Back.{round-whole}
-use lib.Ieee.Exact.{HasValue}
+use lib.Ieee.Exact.{HasValue, round-exact}
 use lib.Ieee.Order.{transfer}
 use lib.Ieee.Positive.{num, den, den-pos, value→cross, first-pos}
 use lib.Ieee.Scale.{round-same}
@@ -54,6 +56,18 @@ module _ (x y : Float) (a c b d : ℕ) (C : 0 < c) (D : 0 < d) (h : HasValue x f
       ∙ round-same f false (num x * den y) (num y * den x) (a * d) (b * c) (mul-pos ny (den-pos x)) (mul-pos B C)
       (ap (λ (z : ℕ). num x * den y * z) (mul-comm b c) ∙ mul-mul-mul-comm (num x) (den y) c b ∙ ap (λ (z : ℕ). z * (den y * b)) hx
       ∙ ap (λ (z : ℕ). a * den x * z) (mul-comm (den y) b ∙ sym hy) ∙ simp (mul-assoc, mul-comm, mul-left-comm))
+
+-- a whole number of at most 24 binary digits over a power of two is exact: the quotient is rounded once, and loses nothing
+pub over-power : (k p : ℕ) (y : Float) → k < 2 ^ 24 → p ≤ 149 → HasValue y false (2 ^ p) 1 → HasValue (div binary32 (f32Of k) y) false k (2 ^ p)
+over-power k p y h l v =
+    let e : div binary32 (f32Of k) y ≡ round binary32 false k (2 ^ p) =
+    div-at (f32Of k) y k 1 (2 ^ p) 1 (zero-lt-suc 0) (zero-lt-suc 0) (whole-value k (le-of-lt h)) v binary32 (pow-pos p)
+    ∙ ap₂ (λ (a b : ℕ). round binary32 false a b) (mul-one k) (mul-one (2 ^ p)) in
+    let q : 149 ≡ 149 - p + p = omega arith in
+    let r : 24 + (149 - p) ≤ 277 = omega arith in
+    subst (λ (x : Float). HasValue x false k (2 ^ p)) (sym e)
+    (round-exact binary32 false k (2 ^ p) k (149 - p) (pow-pos p) h (lt-of-lt-of-le (shl-lt 24 (149 - p) h) (pow-mono r))
+    (ap (λ (d : ℕ). k * 2 ^ d) q ∙ ap (λ (d : ℕ). k * d) (pow-add 2 (149 - p) p) ∙ sym (mul-assoc k (2 ^ (149 - p)) (2 ^ p))))
 
 -- the strict order of two values is that of their fractions
 cross→lt : (x y : Float) → T (nonneg x) → T (nonneg y) → num x * den y < num y * den x → T (lt x y)

@@ -1,17 +1,16 @@
 -- What every stream keeps: a draw is below 2^64, takes the counter one on and keeps the seed, and a unit is exact.
 -- Assumes nothing.
-use mathlib.Core.Path.{_≡_, refl, sym, ap, _∙_, subst}
+use mathlib.Core.Path.{_≡_, refl, ap, _∙_}
 use mathlib.Core.Bool.{false}
-use Prim.Native.Nat.{ℕ, _+_, _*_, _/_, _%_, _^_, _<_}
-use native.Mathlib.Nat.{lt-of-lt-of-le, le-of-lt, zero-lt-suc, add-zero, mul-one, mul-assoc, mod-eq-of-lt}
+use Prim.Native.Nat.{ℕ, _+_, _/_, _%_, _^_, _<_}
+use native.Mathlib.Nat.{add-zero, mod-eq-of-lt}
 use native.Mathlib.Omega.{arith}
 use lib.Dec.{lit<, lit≤}
-use lib.Pow.{shl-lt}
-use lib.Ieee.{Float, binary32, round, ofBits, ofInt}
-use lib.Ieee.Exact.{HasValue, round-exact}
+use lib.Ieee.{Float, binary32, ofBits, ofInt}
+use lib.Ieee.Exact.{HasValue}
 use lib.Ieee.Order.{le-of-values}
 use Rattle.laws.specs.Floats.{f32Of, In}
-use Rattle.laws.proofs.Exact.{whole-value, nonneg-of-value, div-at, lt-of-values}
+use Rattle.laws.proofs.Exact.{whole-value, nonneg-of-value, over-power, lt-of-values}
 use Rattle.streams.specs.Mix.{splitmixDrawOf}
 use Rattle.streams.specs.Stream.{newOf, after, wordAt, nextU64Of, unitBy, unitAt, unitOf, IsUnit}
 use Rattle.streams.specs.declared.stream.NoiseStream.{NoiseStream}
@@ -72,16 +71,9 @@ two24-value : HasValue (ofBits binary32 0x4b80_0000) false (2 ^ 24) 1
 unfolding ofBits
 two24-value = (refl, refl)
 
--- the quotient is one rounding, and k has no more digits than an f32 keeps
 unit-exact : (k : ℕ) → k < 2 ^ 24 → HasValue (unitBy k) false k (2 ^ 24)
 unfolding unitBy
-unit-exact k h =
-    let e = div-at (f32Of k) (ofBits binary32 0x4b80_0000) k 1 (2 ^ 24) 1 (zero-lt-suc 0) (zero-lt-suc 0) (whole-value k (le-of-lt h)) two24-value binary32 (lit< tt) in
-    subst (λ (x : Float). HasValue x false k (2 ^ 24)) (sym (e ∙ ap (λ (a : ℕ). round binary32 false a (2 ^ 24)) (mul-one k)))
-    (round-exact binary32 false k (2 ^ 24) k 125 (lit< tt) h (lt-of-lt-of-le (shl-lt 24 125 h) (lit≤ tt)) (ap (λ (p : ℕ). k * p) split ∙ sym (mul-assoc k (2 ^ 125) (2 ^ 24))))
-  where
-    split : 2 ^ 149 ≡ 2 ^ 125 * 2 ^ 24
-    split = refl
+unit-exact k h = over-power k 24 (ofBits binary32 0x4b80_0000) h (lit≤ tt) two24-value
 
 unit-by : (k : ℕ) → k < 2 ^ 24 → IsUnit k (unitBy k)
 unit-by k h = record {
