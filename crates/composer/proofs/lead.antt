@@ -1,6 +1,7 @@
 pub mod BarsLaws
 pub mod BeatsLaws
 pub mod FitLaws
+pub mod GridLaws
 pub mod GroundLaws
 pub mod LeadLaws
 pub mod MelodyLaws

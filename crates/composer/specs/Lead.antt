@@ -12,6 +12,7 @@ use Rattle.composer.specs.declared.lead.LeadLane.{LeadLane}
 use Rattle.composer.specs.declared.lead.melody.Sung.{Sung}
 pub mod Answer
 pub mod Beats
+pub mod Grid
 pub mod Ground
 pub mod Line
 pub mod Melody

@@ -14,6 +14,7 @@ use streams::stream::NoiseStream;
 
 pub mod answer;
 pub mod beats;
+pub mod grid;
 pub mod ground;
 pub mod line;
 pub mod melody;

@@ -1,25 +1,25 @@
 -- A quarter beat pushed or shifted is a quarter beat, by computation at each of the thirteen. Assumes nothing.
 use mathlib.Core.Path.{_≡_, refl, sym, ap, _∙_, subst}
 use mathlib.Core.Bool.{Bool, true, false, _&&_, cond}
-use Prim.Native.Nat.{ℕ, _+_, _-_, _≤_, _<_, min}
+use Prim.Native.Nat.{ℕ, _+_, _-_, _*_, _≤_, _<_, min}
 use native.Mathlib.Omega.{arith}
 use lib.Dec.{T, eqb, leb, eqb→eq, leb→le}
-use lib.Ieee.{Float, binary32, add, sub, mul, neg, eq, lt, ofInt, ofBits, toBits, fits}
-use lib.Ieee.Fits.{add-fits, sub-fits, mul-fits, cond-fits}
-use lib.Ieee.Bits.{ofBits-fits}
+use lib.Ieee.{Float, binary32, add, sub, mul, div, neg, eq, lt, ofInt, ofBits, toBits, fits}
+use lib.Ieee.Fits.{add-fits, sub-fits, mul-fits, div-fits, cond-fits}
 use mir.Facts.{and-yes}
 use Rattle.laws.specs.Floats.{fractOf}
 use Rattle.laws.specs.Sorts.{All}
 use Rattle.laws.proofs.Bools.{cond-by}
 use Rattle.laws.proofs.Order.{same-bits}
 use Rattle.laws.proofs.Runs.{every, every-at}
+use Rattle.laws.proofs.Sorts.{all-list-to}
 use Rattle.streams.specs.Draw.{chanceOf, coinOf}
 use Rattle.streams.specs.declared.stream.NoiseStream.{NoiseStream}
 use Rattle.composer.specs.Note.{zero32}
 use Rattle.composer.specs.Timing.{sixteenthBeats}
+use Rattle.composer.specs.Lead.Grid.{gridBeatOf, leadGrid, gridFirst, gridLast}
 use Rattle.composer.specs.Lead.Push.{pushP, pushOf}
-use Rattle.composer.specs.Lead.Statement.{leadGrid}
-use Rattle.composer.specs.Lead.Answer.{gridFirst, gridLast, shiftP, eitherWayOf, clampOf, shiftOf}
+use Rattle.composer.specs.Lead.Answer.{shiftP, eitherWayOf, clampOf, shiftOf}
 use Rattle.composer.specs.Lead.Settled.{quarters, Quarter}
 use Rattle.composer.specs.declared.spread.Drawn.{Drawn}
 
@@ -37,9 +37,19 @@ quarter-on q t =
     let u = and-yes (leb 2 q) (leb q 14) t in
     record { times = q; least = leb→le 2 q (u .0); most = leb→le q 14 (u .1); is = refl }
 
+-- half of i + 1 is i + 1 times two quarters
+abbrev gridTest : ℕ → Bool
+gridTest i = eqb (toBits binary32 (gridBeatOf i)) (toBits binary32 (quarters (2 * i + 2)))
+
+grid-tested : T (every 7 gridTest)
+unfolding mul div ofInt ofBits toBits
+grid-tested = tt
+
+grid-quarter : (i : ℕ) → i < 7 → Quarter (gridBeatOf i)
+grid-quarter i h = quarter-by (gridBeatOf i) (2 * i + 2) (omega arith) (omega arith) (div-fits binary32 _ _) (every-at 7 gridTest grid-tested i h)
+
 pub grid-quarters : All Quarter leadGrid
-unfolding mul ofInt ofBits
-grid-quarters = (quarter-on 2 tt, (quarter-on 4 tt, (quarter-on 6 tt, (quarter-on 8 tt, (quarter-on 10 tt, (quarter-on 12 tt, (quarter-on 14 tt, tt)))))))
+grid-quarters = all-list-to gridBeatOf Quarter 7 grid-quarter
 
 -- ---- the push: q quarters on a whole beat become q - 1
 abbrev pushTest : ℕ → Bool
@@ -87,12 +97,12 @@ abbrev shiftTest : Bool → ℕ → Bool
 shiftTest up p = eqb (toBits binary32 (clampOf (add binary32 (quarters (p + 2)) (eitherWayOf up)))) (toBits binary32 (quarters (shiftedTo up p)))
 
 shift-tested : (up : Bool) → T (every 13 (shiftTest up))
-unfolding mul ofInt ofBits add neg lt toBits
+unfolding mul div ofInt ofBits add neg lt toBits
 shift-tested true = tt
 shift-tested false = tt
 
 clamp-fits : (x : Float) → T (fits binary32 x) → T (fits binary32 (clampOf x))
-clamp-fits x f = cond-fits binary32 (lt x gridFirst) gridFirst (cond (lt gridLast x) gridLast x) (ofBits-fits binary32 _) (cond-fits binary32 (lt gridLast x) gridLast x (ofBits-fits binary32 _) f)
+clamp-fits x f = cond-fits binary32 (lt x gridFirst) gridFirst (cond (lt gridLast x) gridLast x) (div-fits binary32 _ _) (cond-fits binary32 (lt gridLast x) gridLast x (div-fits binary32 _ _) f)
 
 shift-at : (up : Bool) (p : ℕ) → p < 13 → Quarter (clampOf (add binary32 (quarters (p + 2)) (eitherWayOf up)))
 shift-at up p h =

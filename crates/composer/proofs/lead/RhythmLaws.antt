@@ -10,15 +10,16 @@ use lib.Ieee.{Float, nan, ofBits, ofInt, mul}
 use borrow.Author.Tests.{le-ltb}
 use Rattle.laws.specs.Sorts.{All}
 use Rattle.laws.proofs.Bools.{cond-by}
-use Rattle.laws.proofs.Lists.{pad-at}
+use Rattle.laws.proofs.Lists.{length-list-to, pad-at}
 use Rattle.laws.proofs.Sorts.{all-at, all-set, all-snoc}
 use Rattle.streams.specs.Draw.{chanceOf, pickOf}
 use Rattle.streams.specs.declared.stream.NoiseStream.{NoiseStream}
 use Rattle.composer.specs.Note.{zero32}
 use Rattle.composer.specs.Style.{oddsOf}
 use Rattle.composer.specs.Lead.Beats.{pastBeats, beatsOf, listOf, addOf, without, removeOf, settled, settleOf}
+use Rattle.composer.specs.Lead.Grid.{gridBeatOf, leadGrid}
 use Rattle.composer.specs.Lead.Push.{pushOf, pushOnOf}
-use Rattle.composer.specs.Lead.Statement.{leadGrid, emptyFrom, slotOf, slotsOf, pushesOf, settledOf, statementBarOf}
+use Rattle.composer.specs.Lead.Statement.{emptyFrom, slotOf, slotsOf, pushesOf, settledOf, statementBarOf}
 use Rattle.composer.specs.Lead.Answer.{dropP, shiftOf, varyOf, variedOf, dropOneOf, answerBarOf}
 use Rattle.composer.specs.Lead.Rhythm.{stateOf, stateTo, notesIn, fallbackFirst, fallbackThird, fallbackOf, statementOf, replyOf, replyTo, rhythmOf}
 use Rattle.composer.specs.Lead.Settled.{Quarter, Settled}
@@ -74,7 +75,7 @@ drawing-push m d x h g q = drawing-add m (d .beats) (pushOf (d .stream) x .value
 
 drawing-slots : (s : NoiseStream) (p : Float) → Drawing 7 (slotsOf s p .beats)
 unfolding slotsOf
-drawing-slots s p = drawing-fold (slotOf p) (drawing-slot p) 0 (emptyFrom s) leadGrid (omega arith) drawing-none grid-quarters
+drawing-slots s p = drawing-fold (slotOf p) (drawing-slot p) 0 (emptyFrom s) leadGrid (omega (arith, length-list-to gridBeatOf 7)) drawing-none grid-quarters
 
 drawing-pushes : (d : BeatsDraw) → Drawing 7 (d .beats) → Drawing 7 (pushesOf d .beats)
 unfolding pushesOf

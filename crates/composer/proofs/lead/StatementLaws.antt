@@ -9,16 +9,17 @@ use native.Mathlib.Omega.{arith}
 use lib.Dec.{ltb}
 use lib.ListN.{length, take, getD, set, replicate, length-append}
 use lib.Seq.{getD-set-same, getD-set-other}
-use lib.Ieee.{Float, nan}
+use lib.Ieee.{Float}
 use borrow.Author.Tests.{ltb-true, ltb-false}
-use Rattle.laws.proofs.Sorts.{fold-on}
+use Rattle.laws.specs.Lists.{listTo}
 use Rattle.streams.specs.Draw.{chanceOf}
 use Rattle.streams.specs.declared.draw.ChanceDraw.{ChanceDraw}
 use Rattle.streams.specs.declared.stream.NoiseStream.{NoiseStream}
 use Rattle.composer.specs.Note.{zero32}
 use Rattle.composer.specs.Lead.Beats.{beatsOf, addOf, settled}
+use Rattle.composer.specs.Lead.Grid.{gridBeatOf}
 use Rattle.composer.specs.Lead.Push.{pushOf, pushOnOf}
-use Rattle.composer.specs.Lead.Statement.{leadGrid, emptyFrom, notesOf, slotOf, slotsOf, pushesOf, settledOf}
+use Rattle.composer.specs.Lead.Statement.{emptyFrom, notesOf, slotOf, slotsOf, pushesOf, settledOf}
 use Rattle.composer.specs.declared.spread.Drawn.{Drawn}
 use Rattle.composer.specs.declared.lead.beats.Beats.{Beats}
 use Rattle.composer.specs.declared.lead.push.BeatsDraw.{BeatsDraw}
@@ -28,22 +29,24 @@ use Rattle.laws.proofs.Written.{Written, written-none, written-over, written-mo
 -- the slots that sound, of the first n
 unfoldable pub keptTo : List Bool → ℕ → List Float
 keptTo sounds zero = []
-keptTo sounds (suc n) = keptTo sounds n ++ cond (getD sounds n false) (getD leadGrid n nan ∷ []) []
+keptTo sounds (suc n) = keptTo sounds n ++ cond (getD sounds n false) (gridBeatOf n ∷ []) []
 
 -- ---- which slots sound
 module _ (p : Float) (s : NoiseStream) where
   abbrev slotsTo : ℕ → BeatsDraw
-  slotsTo i = foldl (slotOf p) (emptyFrom s) (take i leadGrid)
+  slotsTo i = foldl (slotOf p) (emptyFrom s) (listTo gridBeatOf i)
 
   pub record Sounding (sounds : List Bool) (stream : NoiseStream) (i : ℕ) : Type 0 where
     pub after : stream ≡ slotsTo i .stream
     pub each : (j : ℕ) → j < i → getD sounds j false ≡ chanceOf (slotsTo j .stream) p .value
 
   pub sounding-none : (sounds : List Bool) → Sounding sounds s 0
+  unfolding listTo
   sounding-none sounds = record { after = refl; each = λ (j : ℕ) (h : j < 0). absurd (not-suc-le-zero h) }
 
-  slots-on : (i : ℕ) → i < 7 → slotOf p (slotsTo i) (getD leadGrid i nan) ≡ slotsTo (i + 1)
-  slots-on i h = fold-on (slotOf p) (emptyFrom s) leadGrid i nan (slotsTo i) (slotOf p (slotsTo i) (getD leadGrid i nan)) h refl refl
+  slots-on : (i : ℕ) → slotsTo (i + 1) ≡ slotOf p (slotsTo i) (gridBeatOf i)
+  unfolding listTo
+  slots-on i = ap slotsTo (add-one i) ∙ foldl-append (slotOf p) (emptyFrom s) (listTo gridBeatOf i) (gridBeatOf i ∷ [])
 
   slot-stream : (d : BeatsDraw) (x : Float) → slotOf p d x .stream ≡ chanceOf (d .stream) p .stream
   unfolding slotOf
@@ -54,7 +57,7 @@ module _ (p : Float) (s : NoiseStream) where
   sounding-on sounds stream i c l h t e =
       let f : c ≡ chanceOf (slotsTo i .stream) p = e ∙ ap (λ (q : NoiseStream). chanceOf q p) (t .after) in
       record {
-        after = ap (λ (d : ChanceDraw). d .stream) f ∙ sym (slot-stream (slotsTo i) (getD leadGrid i nan)) ∙ ap (λ (d : BeatsDraw). d .stream) (slots-on i h);
+        after = ap (λ (d : ChanceDraw). d .stream) f ∙ sym (slot-stream (slotsTo i) (gridBeatOf i)) ∙ sym (ap (λ (d : BeatsDraw). d .stream) (slots-on i));
         each = λ (j : ℕ) (k : j < i + 1). at f j k (ltb j i) refl;
       }
     where
@@ -71,8 +74,8 @@ module _ (p : Float) (s : NoiseStream) where
   length-kept sounds zero = omega arith
   length-kept sounds (suc i) = go (getD sounds i false) (length-kept sounds i)
     where
-      go : (b : Bool) → length (keptTo sounds i) ≤ i → length (keptTo sounds i ++ cond b (getD leadGrid i nan ∷ []) []) ≤ suc i
-      go true h = let l : length (keptTo sounds i ++ (getD leadGrid i nan ∷ [])) ≡ length (keptTo sounds i) + 1 = length-append (keptTo sounds i) (getD leadGrid i nan ∷ []) in omega arith
+      go : (b : Bool) → length (keptTo sounds i) ≤ i → length (keptTo sounds i ++ cond b (gridBeatOf i ∷ []) []) ≤ suc i
+      go true h = let l : length (keptTo sounds i ++ (gridBeatOf i ∷ [])) ≡ length (keptTo sounds i) + 1 = length-append (keptTo sounds i) (gridBeatOf i ∷ []) in omega arith
       go false h = rw append-nil (omega arith)
 
   slot-beats : (d : BeatsDraw) (x : Float) (xs : List Float) (b : Bool) → length xs < 7 → d .beats ≡ beatsOf xs → b ≡ chanceOf (d .stream) p .value → slotOf p d x .beats ≡ beatsOf (xs ++ cond b (x ∷ []) [])
@@ -85,14 +88,14 @@ module _ (p : Float) (s : NoiseStream) where
 
   -- the slots drawn are those that sound
   kept-is : (sounds : List Bool) (i : ℕ) → i ≤ 7 → ((j : ℕ) → j < i → getD sounds j false ≡ chanceOf (slotsTo j .stream) p .value) → slotsTo i .beats ≡ beatsOf (keptTo sounds i)
-  unfolding keptTo
+  unfolding keptTo listTo
   kept-is sounds zero h each = refl
   kept-is sounds (suc i) h each =
       let k = length-kept sounds i in
       let before = kept-is sounds i (omega arith) (λ (j : ℕ) (l : j < i). each j (omega arith)) in
       ap (λ (n : ℕ). slotsTo n .beats) (sym (add-one i))
-      ∙ sym (ap (λ (d : BeatsDraw). d .beats) (slots-on i (omega arith)))
-      ∙ slot-beats (slotsTo i) (getD leadGrid i nan) (keptTo sounds i) (getD sounds i false) (omega arith) before (each i (omega arith))
+      ∙ ap (λ (d : BeatsDraw). d .beats) (slots-on i)
+      ∙ slot-beats (slotsTo i) (gridBeatOf i) (keptTo sounds i) (getD sounds i false) (omega arith) before (each i (omega arith))
 
 -- ---- their beats, pushed
 pub record Held (d : BeatsDraw) (at : List Float) (n : ℕ) (stream : NoiseStream) : Type 0 where
@@ -124,11 +127,11 @@ held-on d at n stream x q false h t e =
 
 -- a turn of the loop that pushes
 pub held-turn : (sounds : List Bool) (s : NoiseStream) (i : ℕ) (at : List Float) (n : ℕ) (stream : NoiseStream) (q : Drawn) (m : ℕ) (next : NoiseStream) → n < 7
-    → Held (foldl pushOnOf (emptyFrom s) (keptTo sounds i)) at n stream → q ≡ pushOf stream (getD leadGrid i nan) → m ≡ notesOf (getD sounds i false)
+    → Held (foldl pushOnOf (emptyFrom s) (keptTo sounds i)) at n stream → q ≡ pushOf stream (gridBeatOf i) → m ≡ notesOf (getD sounds i false)
     → next ≡ cond (getD sounds i false) (q .stream) stream → Held (foldl pushOnOf (emptyFrom s) (keptTo sounds (i + 1))) (set at n (q .value)) (n + m) next
 unfolding keptTo
 held-turn sounds s i at n stream q m next h t e f g =
-    let x = getD leadGrid i nan in
+    let x = gridBeatOf i in
     let b = getD sounds i false in
     rw (add-one i, foldl-append pushOnOf (emptyFrom s) (keptTo sounds i) (cond b (x ∷ []) []), f, g)
     (held-on (foldl pushOnOf (emptyFrom s) (keptTo sounds i)) at n stream x q b h t e)

@@ -6,18 +6,12 @@ use lib.Ieee.{Float, binary32, ofBits, lt, add, neg}
 use Rattle.streams.specs.Draw.{chanceOf, coinOf, pickOf}
 use Rattle.streams.specs.declared.stream.NoiseStream.{NoiseStream}
 use Rattle.composer.specs.Lead.Beats.{listOf, removeOf}
+use Rattle.composer.specs.Lead.Grid.{gridFirst, gridLast}
 use Rattle.composer.specs.Lead.Push.{pushOnOf}
 use Rattle.composer.specs.Lead.Statement.{emptyFrom, settledOf}
 use Rattle.composer.specs.declared.spread.Drawn.{Drawn}
 use Rattle.composer.specs.declared.lead.beats.Beats.{Beats}
 use Rattle.composer.specs.declared.lead.push.BeatsDraw.{BeatsDraw}
-
--- 0.5, 3.5: the grid's ends
-abbrev pub gridFirst : Float
-gridFirst = ofBits binary32 0x3f00_0000
-
-abbrev pub gridLast : Float
-gridLast = ofBits binary32 0x4060_0000
 
 -- 0.2
 abbrev pub shiftP : Float
@@ -34,6 +28,7 @@ dropP = ofBits binary32 0x3dcc_cccd
 abbrev pub eitherWayOf : Bool → Float
 eitherWayOf up = cond up eighthBeats (neg eighthBeats)
 
+-- a beat held between the ends of the grid
 abbrev pub clampOf : Float → Float
 clampOf x = cond (lt x gridFirst) gridFirst (cond (lt gridLast x) gridLast x)
 

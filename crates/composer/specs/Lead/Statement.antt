@@ -1,21 +1,16 @@
 -- A bar of the statement. Definitions only.
 use mathlib.Core.Bool.{Bool, cond}
-use mathlib.Core.List.{List, [], _∷_, foldl}
+use mathlib.Core.List.{[], foldl}
 use Prim.Native.Nat.{ℕ}
-use lib.Ieee.{Float, binary32, ofBits}
+use lib.Ieee.{Float}
 use Rattle.streams.specs.Draw.{chanceOf}
 use Rattle.streams.specs.declared.stream.NoiseStream.{NoiseStream}
 use Rattle.composer.specs.Lead.Beats.{beatsOf, listOf, addOf, settleOf}
+use Rattle.composer.specs.Lead.Grid.{leadGrid}
 use Rattle.composer.specs.Lead.Push.{pushOnOf}
 use Rattle.composer.specs.Style.{oddsOf}
 use Rattle.composer.specs.declared.style.LeadStyle.{LeadStyle}
 use Rattle.composer.specs.declared.lead.push.BeatsDraw.{BeatsDraw}
-
--- 0.5, 1.0, 1.5, 2.0, 2.5, 3.0, 3.5
-abbrev pub leadGrid : List Float
-leadGrid =
-    ofBits binary32 0x3f00_0000 ∷ ofBits binary32 0x3f80_0000 ∷ ofBits binary32 0x3fc0_0000 ∷ ofBits binary32 0x4000_0000
-    ∷ ofBits binary32 0x4020_0000 ∷ ofBits binary32 0x4040_0000 ∷ ofBits binary32 0x4060_0000 ∷ []
 
 -- no beat yet
 abbrev pub emptyFrom : NoiseStream → BeatsDraw

@@ -5,6 +5,7 @@ ghost use Rattle.composer.specs.Lead.Answer.{eitherWayOf, clampOf, shift
 use crate::lead::beats::Beats;
 use crate::lead::beats::remove;
 use crate::lead::beats::settle;
+use crate::lead::grid::grid_beat;
 use crate::lead::push::BeatsDraw;
 use crate::lead::push::push;
 use crate::spread::Drawn;
@@ -12,11 +13,6 @@ use streams::draw::chance;
 use streams::draw::coin;
 use streams::draw::pick;
 use streams::stream::NoiseStream;
-
-// The ends of the lead's grid.
-const GRID_FIRST: f32 = 0.5;
-
-const GRID_LAST: f32 = 3.5;
 
 // The chance that a note shifts an eighth either way, and that one is dropped.
 const SHIFT_P: f32 = 0.2;
@@ -32,14 +28,16 @@ fn either_way(up: bool) -> f32
     if up { EIGHTH_BEATS } else { -EIGHTH_BEATS }
 }
 
-// A beat held to the grid.
+// A beat held between the ends of the grid.
 fn clamp(x: f32) -> f32
     ensures { λ r. ⌜ r ≡ clampOf x ⌝ }
 {
-    if x < GRID_FIRST {
-        return GRID_FIRST;
+    let first = grid_beat(0);
+    let last = grid_beat(6);
+    if x < first {
+        return first;
     }
-    if GRID_LAST < x { GRID_LAST } else { x }
+    if last < x { last } else { x }
 }
 
 // A beat that may shift an eighth either way.

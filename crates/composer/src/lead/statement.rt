@@ -5,14 +5,12 @@ ghost use Prim.Native.Nat.{_≤_};
 ghost use Rattle.composer.specs.Lead.Statement.{notesOf, statementBarOf};
 use crate::lead::beats::NO_BEATS;
 use crate::lead::beats::settle;
+use crate::lead::grid::grid_beat;
 use crate::lead::push::BeatsDraw;
 use crate::lead::push::push;
 use crate::style::LeadStyle;
 use streams::draw::chance;
 use streams::stream::NoiseStream;
-
-// The beats that a lead note may land on; 0.0 is the kick's.
-const LEAD_GRID: [f32; 7] = [0.5, 1.0, 1.5, 2.0, 2.5, 3.0, 3.5];
 
 // How many notes a slot has.
 fn notes(sounds: bool) -> usize
@@ -66,13 +64,14 @@ pub(crate) fn statement_bar(s: NoiseStream, style: LeadStyle) -> BeatsDraw
     }
     let mut at = [0.0f32; 7];
     let mut n: usize = 0;
-    for i in 0..7usize {
+    for i in 0..7u8 {
         // Each is written, and the next over it unless it sounds.
-        let d = push(stream, LEAD_GRID[i]);
+        let d = push(stream, grid_beat(i));
         let next = d.stream;
+        let heard = sounds[i as usize];
         at[n] = d.value;
-        n += notes(sounds[i]);
-        stream = after(sounds[i], next, stream);
+        n += notes(heard);
+        stream = after(heard, next, stream);
     }
     let done = settle(&mut at, n);
     BeatsDraw {

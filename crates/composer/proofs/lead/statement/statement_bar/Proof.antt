@@ -1,11 +1,11 @@
 -- The rest decides; the first loop tells which slots sound, and the second pushes those. Assumes nothing.
-use mathlib.Core.Path.{_≡_, sym, subst, _∙_}
+use mathlib.Core.Path.{_≡_, sym, ap, subst, _∙_}
 use mathlib.Core.List.{foldl}
 use Prim.Native.Nat.{ℕ, _≤_, _-_}
 use native.Mathlib.Omega.{arith}
 use lib.ListN.{length, length-set}
 use Rattle.laws.specs.Lists.{pad}
-use Rattle.composer.specs.Lead.Push.{pushOnOf}
+use Rattle.composer.specs.Lead.Push.{pushOf, pushOnOf}
 use Rattle.composer.specs.Lead.Statement.{emptyFrom, statementBarOf}
 use Rattle.composer.proofs.lead.StatementLaws.{keptTo, Sounding, sounding-none, sounding-on, Held, held-none, held-turn, statement-done}
 use borrow.Author.Needs.{needs}
@@ -56,14 +56,17 @@ loop2-holds : tie.Need-loop2-holds Inv-loop μ-loop Inv-loop2 μ-loop2
 unfolding keptTo
 loop2-holds c = (omega arith, omega arith, held-none (c .before .loop .stream))
 
-mul-push : tie.Need-mul-push Inv-loop μ-loop Inv-loop2 μ-loop2
-mul-push c = omega arith
-
-array-read-push : tie.Need-array-read-push Inv-loop μ-loop Inv-loop2 μ-loop2
-array-read-push c = omega arith
+grid-beat-requires : tie.Need-grid-beat-requires Inv-loop μ-loop Inv-loop2 μ-loop2
+grid-beat-requires c κs = search needs
 
 push-requires : tie.Need-push-requires Inv-loop μ-loop Inv-loop2 μ-loop2
 push-requires c κs = search needs
+
+cast-heard : tie.Need-cast-heard Inv-loop μ-loop Inv-loop2 μ-loop2
+cast-heard c = omega arith
+
+array-read-heard : tie.Need-array-read-heard Inv-loop μ-loop Inv-loop2 μ-loop2
+array-read-heard c = omega arith
 
 mul-at : tie.Need-mul-at Inv-loop μ-loop Inv-loop2 μ-loop2
 mul-at c = omega arith
@@ -71,17 +74,11 @@ mul-at c = omega arith
 array-write-at : tie.Need-array-write-at Inv-loop μ-loop Inv-loop2 μ-loop2
 array-write-at c = omega arith
 
-array-read-notes : tie.Need-array-read-notes Inv-loop μ-loop Inv-loop2 μ-loop2
-array-read-notes c = omega arith
-
 notes-requires : tie.Need-notes-requires Inv-loop μ-loop Inv-loop2 μ-loop2
 notes-requires c κs = search needs
 
 add-n : tie.Need-add-n Inv-loop μ-loop Inv-loop2 μ-loop2
 add-n c = omega arith
-
-array-read-after : tie.Need-array-read-after Inv-loop μ-loop Inv-loop2 μ-loop2
-array-read-after c = omega arith
 
 after-requires : tie.Need-after-requires Inv-loop μ-loop Inv-loop2 μ-loop2
 after-requires c κs = search needs
@@ -96,9 +93,11 @@ loop2-again : tie.Need-loop2-again Inv-loop μ-loop Inv-loop2 μ-loop2
 loop2-again c =
     let x = c .before in
     let q = x .before .before in
-    let l = q .before .before .loop2 in
-    let u = q .before .before .before .before .loop in
-    (omega arith, omega arith, held-turn (u .sounds) (u .stream) (l .i) (l .at) (l .n) (l .stream) (q .push .result) (x .notes .result) (c .after .result) (omega arith) (l .inv .2) (q .push .ensures) (x .notes .ensures .0) (c .after .ensures))
+    let g = q .before in
+    let l = g .before .before .loop2 in
+    let u = g .before .before .before .before .loop in
+    let pushed = q .push .ensures ∙ ap (pushOf (l .stream)) (g .grid-beat .ensures) in
+    (omega arith, omega arith, held-turn (u .sounds) (u .stream) (l .i) (l .at) (l .n) (l .stream) (q .push .result) (x .notes .result) (c .after .result) (omega arith) (l .inv .2) pushed (x .notes .ensures .0) (c .after .ensures))
 
 slice-aggregate-settle : tie.Need-slice-aggregate-settle Inv-loop μ-loop Inv-loop2 μ-loop2
 slice-aggregate-settle c = sym (c .before .before .loop2 .inv .2 .written .size)
@@ -141,15 +140,14 @@ statement-bar-spec =
     loop-less
     loop-again
     loop2-holds
-    mul-push
-    array-read-push
+    grid-beat-requires
     push-requires
+    cast-heard
+    array-read-heard
     mul-at
     array-write-at
-    array-read-notes
     notes-requires
     add-n
-    array-read-after
     after-requires
     add-i-2
     loop2-less
