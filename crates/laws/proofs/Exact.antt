@@ -57,7 +57,7 @@ module _ (x y : Float) (a c b d : ℕ) (C : 0 < c) (D : 0 < d) (h : HasValue x f
       (ap (λ (z : ℕ). num x * den y * z) (mul-comm b c) ∙ mul-mul-mul-comm (num x) (den y) c b ∙ ap (λ (z : ℕ). z * (den y * b)) hx
       ∙ ap (λ (z : ℕ). a * den x * z) (mul-comm (den y) b ∙ sym hy) ∙ simp (mul-assoc, mul-comm, mul-left-comm))
 
--- a whole number of at most 24 binary digits over a power of two is exact: the quotient is rounded once, and loses nothing
+-- a whole number of at most 24 binary digits over a power of two is exact: the one rounding of the quotient drops none
 pub over-power : (k p : ℕ) (y : Float) → k < 2 ^ 24 → p ≤ 149 → HasValue y false (2 ^ p) 1 → HasValue (div binary32 (f32Of k) y) false k (2 ^ p)
 over-power k p y h l v =
     let e : div binary32 (f32Of k) y ≡ round binary32 false k (2 ^ p) =

@@ -19,4 +19,4 @@ grid-exact i h = over-power (i + 1) 1 (ofBits binary32 0x4000_0000) (omega arith
 
 pub grid-promise : GridPromise
 unfolding listTo div ofInt ofBits toBits
-grid-promise = record { exact = grid-exact; bits = refl; same = refl; first = refl; last = refl }
+grid-promise = record { exact = grid-exact; bits = refl; same = refl }

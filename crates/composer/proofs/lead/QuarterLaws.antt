@@ -8,6 +8,7 @@ use lib.Ieee.{Float, binary32, add, sub, mul, div, neg, eq, lt, ofInt, ofBits, t
 use lib.Ieee.Fits.{add-fits, sub-fits, mul-fits, div-fits, cond-fits}
 use mir.Facts.{and-yes}
 use Rattle.laws.specs.Floats.{fractOf}
+use Rattle.laws.specs.Lists.{listTo}
 use Rattle.laws.specs.Sorts.{All}
 use Rattle.laws.proofs.Bools.{cond-by}
 use Rattle.laws.proofs.Order.{same-bits}
@@ -97,11 +98,12 @@ abbrev shiftTest : Bool → ℕ → Bool
 shiftTest up p = eqb (toBits binary32 (clampOf (add binary32 (quarters (p + 2)) (eitherWayOf up)))) (toBits binary32 (quarters (shiftedTo up p)))
 
 shift-tested : (up : Bool) → T (every 13 (shiftTest up))
-unfolding mul div ofInt ofBits add neg lt toBits
+unfolding listTo mul div ofInt ofBits add neg lt toBits
 shift-tested true = tt
 shift-tested false = tt
 
 clamp-fits : (x : Float) → T (fits binary32 x) → T (fits binary32 (clampOf x))
+unfolding listTo
 clamp-fits x f = cond-fits binary32 (lt x gridFirst) gridFirst (cond (lt gridLast x) gridLast x) (div-fits binary32 _ _) (cond-fits binary32 (lt gridLast x) gridLast x (div-fits binary32 _ _) f)
 
 shift-at : (up : Bool) (p : ℕ) → p < 13 → Quarter (clampOf (add binary32 (quarters (p + 2)) (eitherWayOf up)))

@@ -17,12 +17,12 @@ gridBeatOf i = div binary32 (f32Of (i + 1)) (ofBits binary32 0x4000_0000)
 abbrev pub leadGrid : List Float
 leadGrid = listTo gridBeatOf 7
 
--- the grid's ends, by which answers are held to it
+-- the first of them and the last: the ends by which answers are held
 abbrev pub gridFirst : Float
-gridFirst = gridBeatOf 0
+gridFirst = getD leadGrid 0 nan
 
 abbrev pub gridLast : Float
-gridLast = gridBeatOf 6
+gridLast = getD leadGrid (length leadGrid - 1) nan
 
 -- 0.5, 1.0, 1.5, 2.0, 2.5, 3.0, 3.5 by their bits: the table that proofreaders hold the printed explanation against
 abbrev pub gridTable : List ℕ
@@ -32,9 +32,6 @@ gridTable = 0x3f00_0000 ∷ 0x3f80_0000 ∷ 0x3fc0_0000 ∷ 0x4000_0000 ∷ 0x40
 pub record GridPromise : Type 0 where
   -- each beat is exactly (i + 1) / 2, and its sign is clear
   pub exact : (i : ℕ) → i ≤ 6 → HasValue (gridBeatOf i) false (i + 1) 2
-  -- the seven are the table's, bit for bit, and so no song is another one than with the table
+  -- all seven have the table's bits, and are the numbers that these bits spell
   pub bits : map (toBits binary32) leadGrid ≡ gridTable
   pub same : leadGrid ≡ map (ofBits binary32) gridTable
-  -- the ends are the first of the seven and the last
-  pub first : gridFirst ≡ getD leadGrid 0 nan
-  pub last : gridLast ≡ getD leadGrid (length leadGrid - 1) nan
