@@ -1,7 +1,7 @@
 -- Tests that follow from one another. Assumes nothing.
 use mathlib.Core.Path.{_≡_, refl}
-use mathlib.Core.Bool.{Bool, true, false, not, _||_, cond}
-use Prim.Native.Nat.{_≤_}
+use mathlib.Core.Bool.{Bool, true, false, not, _&&_, _||_, cond}
+use Prim.Native.Nat.{ℕ, _≤_}
 use native.Mathlib.Omega.{arith}
 use mir.Val.{boolByte}
 use lib.Dec.{T}
@@ -15,6 +15,14 @@ or-map true b true b′ i j u = tt
 or-map true b false b′ i j u = absurd (i tt)
 or-map false b true b′ i j u = tt
 or-map false b false b′ i j u = j u
+
+pub and-map : (a b b′ : Bool) → (T b → T b′) → T (a && b) → T (a && b′)
+and-map true b b′ f t = f t
+and-map false b b′ f t = absurd t
+
+-- no test passes and fails
+pub clash : {v : Bool} → v ≡ true → v ≡ false → ⊥
+clash p q = let z : _≡_ {A = ℕ} 0 1 = cc in omega arith
 
 pub contra : (x y : Bool) → (T x → T y) → not y ≡ true → not x ≡ true
 contra true true i h = h

@@ -1,5 +1,5 @@
--- Bounds on float expressions. Each operation goes one way in each operand, so the bounds of a result are the operation at the
--- operands' bounds, which computes. Assumes nothing.
+-- Bounds on float expressions. Each operation goes one way in each operand, so the bounds of a result are the operation
+-- at the operands' bounds, which computes. Assumes nothing.
 use mathlib.Core.Path.{_≡_, refl, sym, ap, _∙_, subst}
 use mathlib.Core.Logic.{_⊎_, inl, inr}
 use Prim.Native.Nat.{ℕ, zero, suc, _+_, _-_, _*_, _/_, _^_, _≤_, _<_, min}
@@ -7,7 +7,7 @@ use native.Mathlib.Nat.{le-trans, le-refl, le-of-eq, le-of-lt, lt-of-lt-of-le, n
 use native.Mathlib.Omega.{arith}
 use mathlib.Core.Bool.{Bool, true, false, not, _&&_, _||_, cond}
 use lib.IntN.{ℤ}
-use borrow.Author.Tests.{ltb-false}
+use borrow.Author.Tests.{ltb-false, le-ltb}
 use lib.Dec.{T, ltb, eqb, eqb→eq, ltb→lt, lit<}
 use lib.Ieee.{Float, nan, inf, fin, Format, prec, emax, low, up, down, odd, units, round, sum, add, sub, mul, div, le, lt, isNan, toUnsigned}
 use lib.Ieee.Fits.{down-pos, and-l, round-is}
@@ -265,7 +265,7 @@ whole-in a b n h k l = record {
 }
 
 -- what is not below is not above
-not-lt→le : (x y : Float) → T (nonneg x) → T (nonneg y) → lt x y ≡ false → T (le y x)
+pub not-lt→le : (x y : Float) → T (nonneg x) → T (nonneg y) → lt x y ≡ false → T (le y x)
 unfolding lt
 not-lt→le nan y p q h = absurd p
 not-lt→le (inf s) y p q h = absurd p
@@ -274,6 +274,17 @@ not-lt→le (fin false m e) nan p q h = absurd q
 not-lt→le (fin false m e) (inf t) p q h = absurd q
 not-lt→le (fin false m e) (fin true n d) p q h = absurd q
 not-lt→le (fin false m e) (fin false n d) p q h = cross→le (fin false n d) (fin false m e) tt tt (ltb-false (m * up e * down d) (n * up d * down e) h)
+
+-- and what is at most y, y is not below
+pub le→not-lt : (x y : Float) → T (nonneg x) → T (nonneg y) → T (le x y) → lt y x ≡ false
+unfolding lt
+le→not-lt nan y p q h = absurd p
+le→not-lt (inf s) y p q h = absurd p
+le→not-lt (fin true m e) y p q h = absurd p
+le→not-lt (fin false m e) nan p q h = absurd q
+le→not-lt (fin false m e) (inf t) p q h = absurd q
+le→not-lt (fin false m e) (fin true n d) p q h = absurd q
+le→not-lt (fin false m e) (fin false n d) p q h = le-ltb (n * up d * down e) (m * up e * down d) (le→cross (fin false m e) (fin false n d) p q h)
 
 -- the lesser of two
 pub lesser-in : {lo hi top x y : Float} → In lo hi x → In lo top y → In lo hi (cond (lt x y) x y)

@@ -1,16 +1,20 @@
 -- How many entries of a list pass a test. Assumes nothing.
 use mathlib.Core.Path.{_≡_, refl, ap, _∙_}
-use mathlib.Core.Bool.{Bool, true, false, cond, _&&_}
+use mathlib.Core.Bool.{Bool, true, false, not, cond, _&&_}
 use mathlib.Core.List.{List, [], _∷_, _++_, map}
 use Prim.Native.Nat.{ℕ, zero, suc, _+_, _-_, _≤_, _<_}
 use native.Mathlib.Nat.{not-suc-le-zero, le-of-suc-le-suc}
 use native.Mathlib.Numerals.{add-one}
 use native.Mathlib.Omega.{arith}
-use lib.ListN.{length, getD, take, drop}
+use lib.ListN.{length, getD, set, take, drop}
 use lib.Seq.{take-suc, take-add}
 use Rattle.laws.specs.Lists.{filterOf}
 use Rattle.laws.specs.Sorts.{count, All}
 use Rattle.laws.proofs.Sorts.{all-sub}
+
+count-true : {A : Type 0} (xs : List A) → count (λ x. true) xs ≡ length xs
+count-true [] = refl
+count-true (x ∷ xs) = omega (arith, count-true xs)
 
 module _ {A : Type 0} (p : A → Bool) where
   pub count-filter : (xs : List A) → length (filterOf p xs) ≡ count p xs
@@ -48,6 +52,33 @@ module _ {A : Type 0} (p : A → Bool) where
   pub count-none : (xs : List A) → All (λ x. p x ≡ false) xs → count p xs ≡ 0
   count-none [] a = refl
   count-none (x ∷ xs) a = rw (a .0) (omega (arith, count-none xs (a .1)))
+
+  pub count-every : (xs : List A) → All (λ x. p x ≡ true) xs → count p xs ≡ length xs
+  count-every [] a = refl
+  count-every (x ∷ xs) a = rw (a .0) (omega (arith, count-every xs (a .1)))
+
+  -- an array that grows at its count
+  pub count-push : (x : A) (xs : List A) (n : ℕ) → count p (take (suc n) (set xs n x)) ≤ count p (take n xs) + cond (p x) 1 0
+  count-push x [] n = omega arith
+  count-push x (y ∷ ys) zero = omega arith
+  count-push x (y ∷ ys) (suc n) = omega (arith, count-push x ys n)
+
+  -- those that pass and those that don't, together
+  pub count-parts : (q : A → Bool) (xs : List A) → count q (filterOf (λ x. not (p x)) xs) + count q (filterOf p xs) ≡ count q xs
+  unfolding filterOf
+  count-parts q [] = refl
+  count-parts q (x ∷ xs) = go (p x) (count-parts q xs)
+    where
+      go : (v : Bool) → count q (filterOf (λ x. not (p x)) xs) + count q (filterOf p xs) ≡ count q xs
+          → count q (cond (not v) (x ∷ filterOf (λ x. not (p x)) xs) (filterOf (λ x. not (p x)) xs)) + count q (cond v (x ∷ filterOf p xs) (filterOf p xs)) ≡ cond (q x) 1 0 + count q xs
+      go true e = omega arith
+      go false e = omega arith
+
+  pub filter-parts : (xs : List A) → length (filterOf (λ x. not (p x)) xs) + length (filterOf p xs) ≡ length xs
+  filter-parts xs = omega (arith, count-true (filterOf (λ x. not (p x)) xs), count-true (filterOf p xs), count-true xs, count-parts (λ x. true) xs)
+
+  pub filter-most : (xs : List A) → length (filterOf p xs) ≤ length xs
+  filter-most xs = omega (arith, count-filter xs, count-most xs)
 
   pub filter-append : (xs ys : List A) → filterOf p (xs ++ ys) ≡ filterOf p xs ++ filterOf p ys
   unfolding filterOf

@@ -6,13 +6,13 @@ use mathlib.Core.List.{List}
 use Prim.Native.Nat.{ℕ, zero, suc, _+_, _-_, _≤_, _<_}
 use native.Mathlib.Nat.{eq-zero-or-pos, eq-or-lt-of-le, le-of-suc-le-suc}
 use native.Mathlib.Omega.{arith}
-use borrow.Author.Tests.{eqb-true, eqb-false, ne-eqb}
+use borrow.Author.Tests.{eqb-true, eqb-false, eq-eqb, ne-eqb}
 use lib.Dec.{eqb}
-use lib.ListN.{length, take, drop, set, getD, replicate, length-set, length-take, length-replicate, getD-replicate}
-use lib.Seq.{getD-set-same, getD-set-other, getD-drop}
+use lib.ListN.{length, take, drop, set, getD, replicate, length-set, length-take, length-drop, length-replicate, getD-replicate}
+use lib.Seq.{getD-set-same, getD-set-other, getD-drop, length-take-le}
 use Rattle.laws.specs.Lanes.{Rises, Occurs, EachAtMost, Laid}
 use Rattle.laws.specs.Sorts.{count}
-use Rattle.laws.proofs.Counts.{count-split, count-most, count-none, count-same}
+use Rattle.laws.proofs.Counts.{count-split, count-most, count-none, count-every, count-same}
 use Rattle.laws.proofs.Sorts.{all-by}
 
 -- ys with m entries in use, grown from xs with n: each entry that is new has P, and all others stay
@@ -117,6 +117,17 @@ module _ {A : Type 0} (d : A) where
           go true e = omega (arith, split, none-old (eqb-true u v e), count-most is (take (m - n) (drop n ys)), length-take (m - n) (drop n ys))
           go false e = omega (arith, split, none-new (eqb-false u v e), each u)
 
+      -- so many entries of v at least
+      many-grown : (least : ℕ) → n + least ≤ m → m ≤ length ys → least ≤ count (λ x. eqb (f x) v) (take m ys)
+      many-grown least more fits =
+          let new = drop n ys in
+          let all = count-every (λ x. eqb (f x) v) (take (m - n) new) (all-by (λ x. eqb (f x) v ≡ true) d new (m - n) (λ i h. eq-eqb (f (getD new i d)) v (ap f (getD-drop n ys i d) ∙ g .new (n + i) (omega arith) (omega arith)))) in
+          omega (arith, count-split (λ x. eqb (f x) v) ys n m (g .more), all, length-take-le (m - n) new (omega (arith, length-drop n ys)))
+
+    many-kept : (P : A → Type 0) (is : A → Bool) → Grown d P xs ys n m → m ≤ length ys → count is (take n xs) ≤ count is (take m ys)
+    many-kept P is g fits =
+        omega (arith, count-same is is d d ys xs n (omega (arith, g .more)) (omega (arith, g .more, g .size)) (λ i h. ap is (g .kept i h)), count-split is ys n m (g .more))
+
     occurs-kept : (P : A → Type 0) (v : ℕ) → Grown d P xs ys n m → Occurs (λ i. f (getD xs i d)) n v → Occurs (λ i. f (getD ys i d)) m v
     occurs-kept P v g o = record { place = o .place; until = omega (arith, g .more, o .until); is = ap f (g .kept (o .place) (o .until)) ∙ o .is }
 
@@ -177,6 +188,16 @@ module _ {A : Type 0} (d none : A) (f : A → ℕ) (cap bars : ℕ) (xs : ℕ �
       let g = bar-grown b (omega arith) in
       ⊎-elim (λ (e : k ≡ b). rw e (occurs-new d f (xs b) (xs (suc b)) (n b) (n (suc b)) b g (more b (omega arith))))
       (λ (e : k < b). occurs-kept d f (xs b) (xs (suc b)) (n b) (n (suc b)) (λ a. f a ≡ b) k g (bars-occur more b k (omega arith) e)) (eq-or-lt-of-le (le-of-suc-le-suc l))
+
+  -- where each bar adds so many entries at least, none has fewer
+  pub bars-many : (least : ℕ) → ((b : ℕ) → b < bars → n b + least ≤ n (suc b)) → (b k : ℕ) → b ≤ bars → k < b → least ≤ count (λ x. eqb (f x) k) (take (n b) (xs b))
+  bars-many least more zero k h l = absurd (omega arith)
+  bars-many least more (suc b) k h l =
+      let g = bar-grown b (omega arith) in
+      let after = bars-laid (suc b) h in
+      let fits : n (suc b) ≤ length (xs (suc b)) = omega (arith, after .few, after .size) in
+      ⊎-elim (λ (e : k ≡ b). rw e (many-grown d f (xs b) (xs (suc b)) (n b) (n (suc b)) b g least (more b (omega arith)) fits))
+      (λ (e : k < b). omega (arith, many-kept d f (xs b) (xs (suc b)) (n b) (n (suc b)) (λ a. f a ≡ b) (λ x. eqb (f x) k) g fits, bars-many least more b k (omega arith) e)) (eq-or-lt-of-le (le-of-suc-le-suc l))
 
   bars-below : (b : ℕ) → b ≤ bars → (i : ℕ) → i < n b → f (getD (xs b) i d) < b
   bars-below zero h i k = absurd (omega (arith, empty))

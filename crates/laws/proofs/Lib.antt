@@ -2,6 +2,7 @@ pub mod Bools
 pub mod Bounds
 pub mod Counts
 pub mod Exact
+pub mod Filters
 pub mod Insertion
 pub mod Inverses
 pub mod Joins
@@ -17,6 +18,7 @@ pub mod Signed
 pub mod Sizes
 pub mod Sorts
 pub mod Splices
+pub mod Sums
 pub mod Truncation
 pub mod Whole
 pub mod Writes

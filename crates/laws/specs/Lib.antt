@@ -5,4 +5,5 @@ pub mod Lists
 pub mod Order
 pub mod Runs
 pub mod Sorts
+pub mod Sums
 pub mod Writes

@@ -1,8 +1,9 @@
 -- The numbers on a song's sheet, but for its style and seed, summed. Definitions only.
 use mathlib.Core.List.{List}
-use Prim.Native.Nat.{ℕ, zero, suc, _+_, _<_}
+use Prim.Native.Nat.{ℕ, _+_, _<_}
 use lib.ListN.{getD}
 use lib.Ieee.{binary32, toBits}
+use Rattle.laws.specs.Sums.{sumTo}
 use Rattle.composer.specs.Chord.{pastChord}
 use Rattle.composer.specs.Compose.{composeOf}
 use Rattle.composer.specs.Form.{introBarsOf, outroBarsOf}
@@ -20,11 +21,6 @@ use Rattle.composer.specs.declared.note.Note.{Note}
 use Rattle.composer.specs.declared.refusal.Outcome.{Outcome}
 use Rattle.composer.specs.declared.score.Score.{Score}
 use Rattle.probe.specs.Draws.{flagOf}
-
--- f 0 + f 1, up to f (n - 1)
-unfoldable pub sumTo : (ℕ → ℕ) → ℕ → ℕ
-sumTo f zero = 0
-sumTo f (suc n) = sumTo f n + f n
 
 -- ---- lanes: the first n events
 abbrev pub noteSum : Note → ℕ

@@ -4,9 +4,10 @@ use Prim.Native.Nat.{ℕ, _-_, _*_, _≤_}
 use native.Mathlib.Numerals.{add-one}
 use native.Mathlib.Omega.{arith}
 use lib.ListN.{getD}
+use Rattle.laws.specs.Sums.{sumTo}
 use Rattle.composer.specs.Chord.{pastChord}
 use borrow.Author.Needs.{needs}
-use Rattle.probe.specs.Songs.{sumTo, chordSum}
+use Rattle.probe.specs.Songs.{chordSum}
 use Rattle.probe.proofs.songs.chords_sum.Statement.{statement}
 use Rattle.probe.proofs.songs.chords_sum.Tie as tie
 

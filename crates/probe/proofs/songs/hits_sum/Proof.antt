@@ -4,7 +4,8 @@ use Prim.Native.Nat.{_-_, _*_, _^_, _≤_}
 use native.Mathlib.Numerals.{add-one}
 use native.Mathlib.Omega.{arith}
 use borrow.Author.Needs.{needs}
-use Rattle.probe.specs.Songs.{sumTo, hitsSum}
+use Rattle.laws.specs.Sums.{sumTo}
+use Rattle.probe.specs.Songs.{hitsSum}
 use Rattle.probe.proofs.songs.hits_sum.Statement.{statement}
 use Rattle.probe.proofs.songs.hits_sum.Tie as tie
 

@@ -4,9 +4,9 @@ use Prim.Native.Nat.{ℕ, _-_, _*_, _≤_}
 use native.Mathlib.Numerals.{add-one}
 use native.Mathlib.Omega.{arith}
 use lib.ListN.{getD}
+use Rattle.laws.specs.Sums.{sumTo}
 use Rattle.composer.specs.Form.Plays.{bitsOf, silent}
 use borrow.Author.Needs.{needs}
-use Rattle.probe.specs.Songs.{sumTo}
 use Rattle.probe.proofs.songs.plays_sum.Statement.{statement}
 use Rattle.probe.proofs.songs.plays_sum.Tie as tie
 
