@@ -60,17 +60,17 @@ pub compose-refused : (style seed : ℕ) → 2 ≤ style → composeAnswered (co
 compose-refused style seed h = rw (unknown-style style seed h)
 
 -- the song of draws that are each its definition's
-pub composed-by : (style : Style) (seed : ℕ) {hs ts ls ks ds bs vs : NoiseStream} {h : HarmonyDraw} {t : Drawn} {l : LeadLane} {k : KeysLane} {d : DrumLane} {b : BassLane} {v : VoiceDraw}
+pub composed-by : (style : Style) (seed : ℕ) {hs ts ls ks ds bs vs : NoiseStream} {h : HarmonyDraw} {t : Drawn} {beat : Float} {l : LeadLane} {k : KeysLane} {d : DrumLane} {b : BassLane} {v : VoiceDraw}
     → hs ≡ streamOf Stage.Harmony seed → h ≡ harmonyOf hs style
-    → ts ≡ streamOf Stage.Tempo seed → t ≡ tempoOf ts style
-    → ls ≡ streamOf Stage.Lead seed → l ≡ leadOf ls (h .harmony) style (beatSOf (t .value))
-    → ks ≡ streamOf Stage.Keys seed → k ≡ keysOf ks (h .harmony) style (beatSOf (t .value))
-    → ds ≡ streamOf Stage.Drums seed → d ≡ drumsOf ds style (beatSOf (t .value))
-    → bs ≡ streamOf Stage.Bass seed → b ≡ bassOf bs (h .harmony) style (beatSOf (t .value))
+    → ts ≡ streamOf Stage.Tempo seed → t ≡ tempoOf ts style → beat ≡ beatSOf (t .value)
+    → ls ≡ streamOf Stage.Lead seed → l ≡ leadOf ls (h .harmony) style beat
+    → ks ≡ streamOf Stage.Keys seed → k ≡ keysOf ks (h .harmony) style beat
+    → ds ≡ streamOf Stage.Drums seed → d ≡ drumsOf ds style beat
+    → bs ≡ streamOf Stage.Bass seed → b ≡ bassOf bs (h .harmony) style beat
     → vs ≡ streamOf Stage.LeadVoice seed → v ≡ leadVoiceOf vs style
     → songBy style h t l k d b v ≡ composedOf style seed
 unfolding composedOf
-composed-by style seed hs h ts t ls l ks k ds d bs b vs v = rw (v, vs, b, bs, d, ds, k, ks, l, ls, t, ts, h, hs)
+composed-by style seed hs h ts t beat ls l ks k ds d bs b vs v = rw (v, vs, b, bs, d, ds, k, ks, l, ls, beat, t, ts, h, hs)
 
 pub known-style : (style seed : ℕ) → style < 2 → composeOf style seed ≡ composedOf (styleBy style) seed
 known-style zero seed h = refl

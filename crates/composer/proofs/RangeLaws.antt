@@ -17,7 +17,7 @@ use Rattle.composer.specs.Note.{zero32}
 use Rattle.composer.specs.Plain.{Fits32}
 use Rattle.composer.specs.Spread.{drawOf, afterOf, jitterOf}
 use Rattle.composer.specs.Tempo.{beatsOf}
-use Rattle.composer.specs.Timing.{beatsPerBar, barSOf, swingDelayOf}
+use Rattle.composer.specs.Timing.{beatsPerBar, barSOf, barStartOf, swingDelayOf}
 use Rattle.composer.specs.declared.spread.Spread.{Spread}
 use Rattle.composer.specs.declared.spread.Jitter.{Jitter}
 use Rattle.composer.specs.declared.style.Style.{Style}
@@ -119,7 +119,7 @@ module _ (beatS : Float) (beat : In quickest slowest beatS) where
       (unfold mul le in tt)
 
   -- 24 seconds
-  pub start-in : (bar : ℕ) → bar ≤ 7 → In zero32 (ofBits binary32 0x41c0_0000) (mul binary32 (f32Of bar) (barSOf beatS))
+  pub start-in : (bar : ℕ) → bar ≤ 7 → In zero32 (ofBits binary32 0x41c0_0000) (barStartOf bar beatS)
   unfolding ofBits ofInt
   start-in bar h =
       wider zero32 (ofBits binary32 0x41c0_0000) (mul-in binary32 (whole-in 0 7 bar (omega arith) h (lit≤ tt)) bar-in (unfold mul in tt)) tt tt
@@ -136,7 +136,7 @@ module _ (beatS : Float) (beat : In quickest slowest beatS) where
 
   -- 27 seconds
   pub eighths-in : (bar e : ℕ) → bar ≤ 7 → e ≤ 7
-      → In zero32 (ofBits binary32 0x41d8_0000) (add binary32 (mul binary32 (f32Of bar) (barSOf beatS)) (mul binary32 (f32Of e) (div binary32 beatS (ofBits binary32 0x4000_0000))))
+      → In zero32 (ofBits binary32 0x41d8_0000) (add binary32 (barStartOf bar beatS) (mul binary32 (f32Of e) (div binary32 beatS (ofBits binary32 0x4000_0000))))
   unfolding ofBits ofInt
   eighths-in bar e h k =
       wider zero32 (ofBits binary32 0x41d8_0000)

@@ -1,13 +1,12 @@
 -- The drums stage: a groove of the style's, laid over the loop's eight bars. Definitions only.
 use Prim.Native.Nat.{ℕ, zero, suc, _+_, _*_}
 use lib.ListN.{replicate}
-use lib.Ieee.{Float, binary32, ofBits, mul}
-use Rattle.laws.specs.Floats.{f32Of}
+use lib.Ieee.{Float, binary32, ofBits}
 use Rattle.streams.specs.Draw.{pickOf}
 use Rattle.streams.specs.declared.stream.NoiseStream.{NoiseStream}
 use Rattle.composer.specs.Note.{noHit}
 use Rattle.composer.specs.Spread.{drawOf}
-use Rattle.composer.specs.Timing.{barSOf}
+use Rattle.composer.specs.Timing.{barStartOf}
 use Rattle.composer.specs.Drums.Grooves.{hiphopGrooveOf, sleepGroove}
 use Rattle.composer.specs.Drums.Kit.{drawnOn, layKicksOf, laySnaresOf, layHatsOf}
 use Rattle.composer.specs.declared.spread.Spread.{Spread}
@@ -24,7 +23,7 @@ abbrev pub wobble : Spread
 wobble = record { base = ofBits binary32 0x3f66_6666; span = ofBits binary32 0x3e4c_cccd }
 
 abbrev pub barOf : ℕ → Float → Float → Bar
-barOf number beatS w = record { number = number; start = mul binary32 (f32Of number) (barSOf beatS); «beat_s» = beatS; wobble = w }
+barOf number beatS w = record { number = number; start = barStartOf number beatS; «beat_s» = beatS; wobble = w }
 
 -- loop bar `number`: its wobble is drawn first, then kicks, snares, hats
 unfoldable pub layBarOf : DrumLane → Groove → Float → ℕ → DrumLane

@@ -12,7 +12,7 @@ use Rattle.composer.specs.Chord.{rootClassOf, inOctaveFrom, pastChord}
 use Rattle.composer.specs.Note.{noNote}
 use Rattle.composer.specs.Spread.{drawOf, afterOf}
 use Rattle.composer.specs.Style.{keysStyleOf}
-use Rattle.composer.specs.Timing.{barSOf, swingDelayOf}
+use Rattle.composer.specs.Timing.{barStartOf, swingDelayOf}
 use Rattle.composer.specs.declared.chord.Chord.{Chord}
 use Rattle.composer.specs.declared.harmony.Harmony.{Harmony}
 use Rattle.composer.specs.declared.note.Note.{Note}
@@ -88,7 +88,7 @@ pushOf l note = record { notes = set (l .notes) (l .count) note; count = l .coun
 abbrev pub gridAt : ℕ → ℕ → Float → Float
 gridAt bar e beatS =
     let eighth = div binary32 beatS (ofBits binary32 0x4000_0000) in
-    let at = add binary32 (mul binary32 (f32Of bar) (barSOf beatS)) (mul binary32 (f32Of e) eighth) in
+    let at = add binary32 (barStartOf bar beatS) (mul binary32 (f32Of e) eighth) in
     cond (eqb (e % 2) 1) (add binary32 at (swingDelayOf swingKeys eighth)) at
 
 -- ---- a stroke by itself: the ninth's chance, the velocity and the roll are drawn, or the pick and the velocity

@@ -1,6 +1,8 @@
 -- Times in a bar. Definitions only.
 use mathlib.Core.Bool.{cond}
+use Prim.Native.Nat.{ℕ}
 use lib.Ieee.{Float, binary32, ofBits, lt, sub, mul}
+use Rattle.laws.specs.Floats.{f32Of}
 
 -- 4.0
 abbrev pub beatsPerBar : Float
@@ -12,6 +14,10 @@ sixteenthBeats = ofBits binary32 0x3e80_0000
 
 abbrev pub barSOf : Float → Float
 barSOf beatS = mul binary32 beatS beatsPerBar
+
+-- the start of a loop bar, its bar line
+abbrev pub barStartOf : ℕ → Float → Float
+barStartOf bar beatS = mul binary32 (f32Of bar) (barSOf beatS)
 
 -- (s - 0.5) * eighth
 abbrev pub swingDelayOf : Float → Float → Float

@@ -1,6 +1,6 @@
 // A song of a style and a seed: each stage draws from its own stream.
 ghost use mathlib.Core.Path.{_≡_};
-ghost use Rattle.composer.specs.Compose.{composedOf, noScore, refusedOf, styleBy, composeOf};
+ghost use Rattle.composer.specs.Compose.{beatSOf, composedOf, noScore, refusedOf, styleBy, composeOf};
 use crate::bass::bass;
 use crate::chord::NO_CHORD;
 use crate::drums::drums;
@@ -28,6 +28,13 @@ pub struct Composed {
     pub counters: Counters,
 }
 
+// How long a beat is, in seconds.
+pub fn beat_s_of(bpm: f32) -> f32
+    ensures { λ r. ⌜ r ≡ beatSOf bpm ⌝ }
+{
+    60.0 / bpm
+}
+
 // Each stage in turn, and the song of what they have drawn.
 fn composed_of(style: Style, seed: u64) -> Composed
     ensures { λ r. ⌜ r ≡ composedOf style seed ⌝ }
@@ -37,7 +44,7 @@ fn composed_of(style: Style, seed: u64) -> Composed
     let h = hd.harmony;
     let ts = Stage::Tempo.stream(seed);
     let td = tempo(ts, style);
-    let beat_s = 60.0 / td.value;
+    let beat_s = beat_s_of(td.value);
     let ls = Stage::Lead.stream(seed);
     let ld = lead(ls, h, style, beat_s);
     let ks = Stage::Keys.stream(seed);

@@ -15,7 +15,7 @@ use crate::note::Hit;
 use crate::note::NO_HIT;
 use crate::spread::Spread;
 use crate::style::Style;
-use crate::timing::BEATS_PER_BAR;
+use crate::timing::bar_start;
 use streams::draw::chance;
 use streams::draw::pick;
 use streams::stream::NoiseStream;
@@ -42,7 +42,7 @@ fn bar_of(number: u8, beat_s: f32, wobble: f32) -> Bar
 {
     Bar {
         number: number,
-        start: number as f32 * (beat_s * BEATS_PER_BAR),
+        start: bar_start(number, beat_s),
         beat_s: beat_s,
         wobble: wobble,
     }

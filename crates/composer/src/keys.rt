@@ -17,7 +17,7 @@ use crate::style::Density;
 use crate::style::KeysStyle;
 use crate::style::Style;
 use crate::style::keys_style;
-use crate::timing::BEATS_PER_BAR;
+use crate::timing::bar_start;
 use crate::timing::swing_delay;
 use streams::draw::chance;
 use streams::draw::pick;
@@ -113,9 +113,8 @@ fn density_draw(d: Density, s: NoiseStream) -> Drawn
 fn grid_at(bar: u8, e: u8, beat_s: f32) -> f32
     ensures { λ r. ⌜ r ≡ gridAt bar e «beat_s» ⌝ }
 {
-    let bar_s = beat_s * BEATS_PER_BAR;
     let eighth = beat_s / 2.0;
-    let at = bar as f32 * bar_s + e as f32 * eighth;
+    let at = bar_start(bar, beat_s) + e as f32 * eighth;
     if e % 2 == 1 {
         at + swing_delay(SWING_KEYS, eighth)
     } else {

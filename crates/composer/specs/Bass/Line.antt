@@ -10,7 +10,7 @@ use Rattle.streams.specs.declared.stream.NoiseStream.{NoiseStream}
 use Rattle.streams.specs.declared.draw.ChanceDraw.{ChanceDraw}
 use Rattle.composer.specs.Chord.{inOctaveFrom}
 use Rattle.composer.specs.Spread.{drawOf, afterOf}
-use Rattle.composer.specs.Timing.{sixteenthBeats, barSOf}
+use Rattle.composer.specs.Timing.{sixteenthBeats, barSOf, barStartOf}
 use Rattle.composer.specs.Style.{oddsOf}
 use Rattle.composer.specs.Bass.Rhythm.{Rising}
 use Rattle.composer.specs.declared.spread.Spread.{Spread}
@@ -99,7 +99,7 @@ abbrev pub gapOf : BarPart → ℕ → ℕ
 gapOf p i = cond (ltb (i + 1) (p .steps .n)) (getD (p .steps .at) (i + 1) 0) (16 + p .«next_step») - getD (p .steps .at) i 0
 
 abbrev pub onsetOf : Float → ℕ → ℕ → Float
-onsetOf beatS bar step = add binary32 (mul binary32 (f32Of bar) (barSOf beatS)) (mul binary32 (f32Of step) (stepSOf beatS))
+onsetOf beatS bar step = add binary32 (barStartOf bar beatS) (mul binary32 (f32Of step) (stepSOf beatS))
 
 -- the gate's share of the gap, or what is left of the loop
 unfoldable pub heldOf : Float → ℕ → Float → Float

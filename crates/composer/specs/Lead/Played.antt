@@ -2,11 +2,10 @@
 use Prim.Native.Nat.{ℕ, zero, suc, _+_}
 use lib.ListN.{getD, set, replicate}
 use lib.Ieee.{Float, binary32, ofBits, add, mul}
-use Rattle.laws.specs.Floats.{f32Of}
 use Rattle.streams.specs.declared.stream.NoiseStream.{NoiseStream}
 use Rattle.composer.specs.Note.{noNote}
 use Rattle.composer.specs.Spread.{drawOf, afterOf}
-use Rattle.composer.specs.Timing.{barSOf}
+use Rattle.composer.specs.Timing.{barStartOf}
 use Rattle.composer.specs.Lead.Melody.{pastLead}
 use Rattle.composer.specs.declared.spread.Spread.{Spread}
 use Rattle.composer.specs.declared.lead.LeadLane.{LeadLane}
@@ -23,7 +22,7 @@ abbrev pub leadAccent : Spread
 leadAccent = record { base = ofBits binary32 0x3f6b_851f; span = ofBits binary32 0x3e23_d70a }
 
 abbrev pub onGridOf : LeadNote → Float → Float
-onGridOf x beatS = add binary32 (mul binary32 (f32Of (x .bar)) (barSOf beatS)) (mul binary32 (x .beat) beatS)
+onGridOf x beatS = add binary32 (barStartOf (x .bar) beatS) (mul binary32 (x .beat) beatS)
 
 -- its lag is drawn, then its accent
 unfoldable pub playedNoteOf : LeadNote → Float → Float → NoiseStream → PlayedNote

@@ -10,6 +10,7 @@ use crate::spread::Spread;
 use crate::style::BassStyle;
 use crate::timing::BEATS_PER_BAR;
 use crate::timing::SIXTEENTH_BEATS;
+use crate::timing::bar_start;
 use streams::draw::ChanceDraw;
 use streams::draw::chance;
 use streams::stream::NoiseStream;
@@ -197,9 +198,8 @@ fn gap(p: BarPart, i: usize) -> u8
 fn onset(beat_s: f32, bar: u8, step: u8) -> f32
     ensures { λ r. ⌜ r ≡ onsetOf «beat_s» bar step ⌝ }
 {
-    let bar_s = beat_s * BEATS_PER_BAR;
     let step_s = SIXTEENTH_BEATS * beat_s;
-    bar as f32 * bar_s + step as f32 * step_s
+    bar_start(bar, beat_s) + step as f32 * step_s
 }
 
 // How long a note at `at` is held: most of its gap, and not past the loop's end.

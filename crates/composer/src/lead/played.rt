@@ -8,7 +8,7 @@ use crate::lead::melody::Sung;
 use crate::note::NO_NOTE;
 use crate::note::Note;
 use crate::spread::Spread;
-use crate::timing::BEATS_PER_BAR;
+use crate::timing::bar_start;
 use streams::stream::NoiseStream;
 
 // How far behind the grid a note sounds, in seconds.
@@ -33,8 +33,7 @@ pub struct PlayedNote {
 fn on_grid(x: LeadNote, beat_s: f32) -> f32
     ensures { λ r. ⌜ r ≡ onGridOf x «beat_s» ⌝ }
 {
-    let bar_s = beat_s * BEATS_PER_BAR;
-    x.bar as f32 * bar_s + x.beat * beat_s
+    bar_start(x.bar, beat_s) + x.beat * beat_s
 }
 
 // Its lag is drawn, then its accent.

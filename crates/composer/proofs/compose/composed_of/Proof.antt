@@ -18,6 +18,9 @@ stream-requires-2 c κs = search needs
 tempo-requires : tie.Need-tempo-requires
 tempo-requires c κs = search needs
 
+beat-s-of-requires : tie.Need-beat-s-of-requires
+beat-s-of-requires c κs = search needs
+
 stream-requires-3 : tie.Need-stream-requires-3
 stream-requires-3 c κs = search needs
 
@@ -56,12 +59,13 @@ returns c =
     let d = b .before .before in
     let k = d .before .before in
     let l = k .before .before in
-    let t = l .before .before .before in
+    let beat = l .before .before in
+    let t = beat .before in
     let h = t .before .before .before in
     let a = h .before .before .args in
     composed-by (a .style) (a .seed)
     (h .before .stream .ensures) (h .harmony-of .ensures)
-    (t .before .stream2 .ensures) (t .tempo .ensures)
+    (t .before .stream2 .ensures) (t .tempo .ensures) (beat .beat-s-of .ensures)
     (l .before .stream3 .ensures) (l .lead .ensures)
     (k .before .stream4 .ensures) (k .keys .ensures)
     (d .before .stream5 .ensures) (d .drums .ensures)
@@ -76,6 +80,7 @@ composed-of-spec =
     harmony-of-requires
     stream-requires-2
     tempo-requires
+    beat-s-of-requires
     stream-requires-3
     lead-requires
     stream-requires-4
