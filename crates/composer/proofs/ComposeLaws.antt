@@ -15,6 +15,7 @@ use Rattle.composer.specs.Bass.{bassOf}
 use Rattle.composer.specs.Chord.{pastChord}
 use Rattle.composer.specs.Compose.{beatSOf, songBy, composedOf, refusedOf, styleBy, composeOf, composeAnswered}
 use Rattle.composer.specs.Drums.{drumsOf}
+use Rattle.composer.specs.Early.{EarlyPromise}
 use Rattle.composer.specs.Harmony.{pentatonic, colour, classIn, classesOf, melodyPcsOf, harmonyOf, Tonal}
 use Rattle.composer.specs.Keys.{keysOf}
 use Rattle.composer.specs.Lead.{leadOf}
@@ -45,6 +46,7 @@ use Rattle.composer.proofs.RangeLaws.{tempo-between, beat-in}
 use Rattle.composer.proofs.TempoLaws.{tempo-within, tempo-counter}
 use Rattle.composer.proofs.VoiceLaws.{voice-counter}
 use Rattle.composer.proofs.bass.PromiseLaws.{bass-laid, bass-occur, bass-few, bass-sounds, bass-within}
+use Rattle.composer.proofs.drums.EarlyLaws.{drums-early, drums-first, drums-late}
 use Rattle.composer.proofs.keys.DrawLaws.{keys-counter}
 use Rattle.composer.proofs.keys.NoteLaws.{keys-laid, keys-few}
 use Rattle.composer.proofs.keys.PlainLaws.{keys-within}
@@ -151,6 +153,14 @@ module _ (style : Style) (seed : ℕ) where
         bass = bass-within (streamOf Stage.Bass seed) harmony style beatS tonal;
       }
 
+  early-promise : EarlyPromise (composedOf style seed .score)
+  unfolding composedOf songBy tempoOf
+  early-promise =
+      let n = beatsOf (streamOf Stage.Tempo seed) style in
+      let tempo = tempo-between (streamOf Stage.Tempo seed) style in
+      let s = streamOf Stage.Drums seed in
+      record { few = drums-early n tempo s style; first = drums-first n tempo s style; late = drums-late n tempo s style }
+
   score-promise : ScorePromise style (composedOf style seed .score) (composedOf style seed .scale)
   unfolding composedOf songBy tempoOf
   score-promise =
@@ -167,6 +177,7 @@ module _ (style : Style) (seed : ℕ) where
         bars = bars-promise;
         plain = plain-numbers style seed;
         range = range-promise;
+        early = early-promise;
         hit-in-each = drums-occur (streamOf Stage.Drums seed) style beatS;
         bass-in-each = bass-occur (streamOf Stage.Bass seed) harmony style beatS tonal;
         lead-sings = λ i h. let f = lead-fits (streamOf Stage.Lead seed) harmony tonal style beatS i h in record { least = f .0; most = f .1; class = has-occurs (harmony .scale .n) (harmony .scale .pcs) _ (f .2) };

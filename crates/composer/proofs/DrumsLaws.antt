@@ -1,11 +1,14 @@
--- What the drums of every stream keep: at most 98 hits, each bar's in turn, none without one and none with more than 13, and the draws that they take. Assumes nothing.
+-- What the drums of every stream keep: at most 98 hits, each bar's in turn, none with fewer than two or more than 13,
+-- and the draws that they take. Assumes nothing.
 use mathlib.Core.Path.{_≡_, sym, ap, _∙_}
 use mathlib.Core.Bool.{Bool}
 use Prim.Native.Nat.{ℕ, _+_, _*_, _^_, _≤_, _<_}
 use native.Mathlib.Omega.{arith}
+use lib.Dec.{eqb}
 use lib.ListN.{take, getD}
 use lib.Ieee.{Float}
 use Rattle.laws.specs.Lanes.{Occurs, EachAtMost, Laid}
+use Rattle.laws.specs.Sorts.{count}
 use Rattle.streams.specs.Stream.{after}
 use Rattle.streams.specs.Draw.{pickOf}
 use Rattle.streams.specs.Stage.{streamOf}
@@ -21,7 +24,7 @@ use Rattle.composer.specs.declared.style.Style.{Style}
 use Rattle.composer.specs.declared.style.Style.the-variants.{Hiphop, Sleep}
 use Rattle.composer.proofs.drums.GroovesLaws.{hiphop-snares, hiphop-eighths}
 use Rattle.composer.proofs.drums.DrawsLaws.{chancesTo, bars-made}
-use Rattle.composer.proofs.drums.BarsLaws.{lane-laid, lane-occurs, lane-few}
+use Rattle.composer.proofs.drums.BarsLaws.{lane-laid, lane-occurs, lane-many, lane-few}
 
 -- at most 98 hits, bar after bar, and zero behind them
 pub drums-laid : (s : NoiseStream) (style : Style) (beatS : Float) → Laid pastHit noHit hitBar 98 7 (drumsOf s style beatS .hits) (drumsOf s style beatS .count)
@@ -34,6 +37,12 @@ pub drums-occur : (s : NoiseStream) (style : Style) (beatS : Float) (b : ℕ) �
 unfolding drumsOf layGrooveOf
 drums-occur s Hiphop beatS = lane-occurs (hiphopGrooveOf (pickOf s 4 .value)) (hiphop-snares (pickOf s 4 .value)) beatS (pickOf s 4 .stream)
 drums-occur s Sleep beatS = lane-occurs sleepGroove (omega arith) beatS s
+
+-- and two at least
+pub drums-many : (s : NoiseStream) (style : Style) (beatS : Float) (b : ℕ) → b < 8 → 2 ≤ count (λ h. eqb (hitBar h) b) (take (drumsOf s style beatS .count) (drumsOf s style beatS .hits))
+unfolding drumsOf layGrooveOf
+drums-many s Hiphop beatS = lane-many (hiphopGrooveOf (pickOf s 4 .value)) (hiphop-snares (pickOf s 4 .value)) beatS (pickOf s 4 .stream)
+drums-many s Sleep beatS = lane-many sleepGroove (omega arith) beatS s
 
 -- at most 13 hits in any one bar
 pub drums-few : (s : NoiseStream) (style : Style) (beatS : Float) → EachAtMost hitBar 13 (take (drumsOf s style beatS .count) (drumsOf s style beatS .hits))

@@ -1,5 +1,6 @@
 pub mod Arranged
 pub mod AskLaws
+pub mod BackLaws
 pub mod Beatless
 pub mod BodyLaws
 pub mod DecisionsLaws

@@ -27,3 +27,7 @@ partsOf f = introBarsOf f + bodyBarsOf f + outroBarsOf f
 -- the loop bar that song bar 0 shows
 abbrev pub leadInOf : Form → ℕ
 leadInOf f = (8 - introBarsOf f % 8) % 8
+
+-- song bar b shows this loop bar
+abbrev pub loopBarOf : Form → ℕ → ℕ
+loopBarOf f b = (b + leadInOf f) % 8

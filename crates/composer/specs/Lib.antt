@@ -4,6 +4,7 @@ pub mod Cases
 pub mod Chord
 pub mod Compose
 pub mod Drums
+pub mod Early
 pub mod Form
 pub mod Harmony
 pub mod Keys

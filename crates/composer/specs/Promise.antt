@@ -8,6 +8,7 @@ use Rattle.composer.specs.Bass.Promise.{SoundsIn}
 use Rattle.composer.specs.Chord.{pastChord, RootPosition}
 use Rattle.composer.specs.Compose.{composeAnswered}
 use Rattle.composer.specs.Drums.{drumDrawsOf}
+use Rattle.composer.specs.Early.{EarlyPromise}
 use Rattle.composer.specs.Keys.{keyDrawsOf}
 use Rattle.composer.specs.Note.{noNote, pastNote, noteBar, noHit, pastHit, hitBar}
 use Rattle.composer.specs.Plain.{PlainPromise}
@@ -62,6 +63,8 @@ pub record ScorePromise (style : Style) (score : Score) (scale : Scale) : Type 0
   pub plain : PlainPromise score
   -- every note of every chord and lane
   pub range : RangePromise score
+  -- how few hits are early
+  pub early : EarlyPromise score
   -- every loop bar has a hit and a bass note
   pub hit-in-each : (b : ℕ) → b < 8 → Occurs (λ i. hitBar (getD (score .hits) i pastHit)) (score .«hit_count») b
   pub bass-in-each : (b : ℕ) → b < 8 → Occurs (λ i. noteBar (getD (score .bass) i pastNote)) (score .«bass_count») b

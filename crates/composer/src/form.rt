@@ -1,6 +1,7 @@
 // A song's form: which layers strike in each bar of the song, and how its edges move.
 ghost use mathlib.Core.Path.{_≡_};
-ghost use Rattle.composer.specs.Form.{introBarsOf, bodyBarsOf, outroBarsOf, leadInOf};
+ghost use Prim.Native.Nat.{_<_};
+ghost use Rattle.composer.specs.Form.{introBarsOf, bodyBarsOf, outroBarsOf, leadInOf, loopBarOf};
 use crate::form::ends::End;
 use crate::form::ends::Outro;
 use crate::form::plays::Plays;
@@ -54,5 +55,14 @@ impl Form {
     {
         let bars = self.intro_bars();
         (8 - bars % 8) % 8
+    }
+
+    // The loop bar that a song bar shows.
+    pub fn loop_bar(self, bar: u64) -> u8
+        ensures { λ r. ⌜ r ≡ loopBarOf self bar ⌝ }
+        ensures { λ r. ⌜ r < 8 ⌝ }
+    {
+        let lead_in = self.lead_in();
+        ((bar % 8 + lead_in as u64) % 8) as u8
     }
 }

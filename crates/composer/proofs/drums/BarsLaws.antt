@@ -1,4 +1,4 @@
--- The hits of a bar follow those of the bars before it, all carry its number, and they are at most 13. Assumes nothing.
+-- The hits of a bar follow those of the bars before it, all carry its number, and they are two to 13. Assumes nothing.
 use mathlib.Core.Path.{_≡_, refl}
 use mathlib.Core.Bool.{_&&_}
 use Prim.Native.Nat.{ℕ, zero, suc, _+_, _%_, _≤_, _<_}
@@ -7,8 +7,9 @@ use lib.Dec.{eqb}
 use lib.ListN.{length, take, getD}
 use lib.Ieee.{Float}
 use Rattle.laws.specs.Lanes.{Occurs, EachAtMost, Laid}
+use Rattle.laws.specs.Sorts.{count}
 use Rattle.laws.proofs.Bools.{either}
-use Rattle.laws.proofs.Lanes.{Grown, grown-none, grown-push, grown-then, bars-laid, bars-occur, bars-few}
+use Rattle.laws.proofs.Lanes.{Grown, grown-none, grown-push, grown-then, bars-laid, bars-occur, bars-many, bars-few}
 use Rattle.streams.specs.Draw.{chanceOf}
 use Rattle.streams.specs.declared.stream.NoiseStream.{NoiseStream}
 use Rattle.composer.specs.Note.{noHit, pastHit, hitBar}
@@ -117,12 +118,18 @@ module _ (g : Groove) (snares : g .«snare_count» ≤ 2) (beatS : Float) (s : N
   pub lane-laid : Laid pastHit noHit hitBar 98 7 (laneTo 8 .hits) (laneTo 8 .count)
   lane-laid = bars-laid pastHit noHit hitBar 98 8 (λ n. laneTo n .hits) (λ n. laneTo n .count) start empty few lane-bar 8 (omega arith)
 
-  more : (n : ℕ) → n < 8 → laneTo n .count < laneTo (suc n) .count
+  many : (n : ℕ) → n < 8 → laneTo n .count + 2 ≤ laneTo (suc n) .count
   unfolding barsTo
-  more n h = omega (arith, bar-least (laneTo n) g beatS n)
+  many n h = bar-least (laneTo n) g beatS n
+
+  more : (n : ℕ) → n < 8 → laneTo n .count < laneTo (suc n) .count
+  more n h = omega (arith, many n h)
 
   pub lane-occurs : (b : ℕ) → b < 8 → Occurs (λ i. hitBar (getD (laneTo 8 .hits) i pastHit)) (laneTo 8 .count) b
   lane-occurs b h = bars-occur pastHit noHit hitBar 98 8 (λ n. laneTo n .hits) (λ n. laneTo n .count) start empty few lane-bar more 8 b (omega arith) h
+
+  pub lane-many : (b : ℕ) → b < 8 → 2 ≤ count (λ h. eqb (hitBar h) b) (take (laneTo 8 .count) (laneTo 8 .hits))
+  lane-many b h = bars-many pastHit noHit hitBar 98 8 (λ n. laneTo n .hits) (λ n. laneTo n .count) start empty few lane-bar 2 many 8 b (omega arith) h
 
   bar-few : (n : ℕ) → n < 8 → laneTo (suc n) .count ≤ laneTo n .count + 13
   unfolding barsTo

@@ -1,5 +1,6 @@
--- The form of every seed keeps its promise: the body's bars are those of the decisions, and no look-up is refused. Assumes nothing.
-use mathlib.Core.Path.{_≡_, refl, ap, _∙_}
+-- The form of every seed keeps its promise: the body's bars are those of the decisions, and no look-up is refused.
+-- Assumes nothing.
+use mathlib.Core.Path.{_≡_, refl, sym, ap, _∙_}
 use mathlib.Core.Bool.{Bool, true, false, not, _&&_, and-false}
 use Prim.Native.Nat.{ℕ, _+_, _-_, _*_, _/_, _<_}
 use native.Mathlib.Omega.{arith}
@@ -9,7 +10,7 @@ use lib.ListN.{getD}
 use Rattle.laws.specs.Lists.{listTo}
 use Rattle.laws.proofs.Lists.{length-pad, pad-past, length-list-to}
 use Rattle.composer.specs.Refusal.{Gives}
-use Rattle.composer.specs.Form.{introBarsOf}
+use Rattle.composer.specs.Form.{introBarsOf, loopBarOf}
 use Rattle.composer.specs.Form.Plays.{silent}
 use Rattle.composer.specs.Form.Body.{isBreak, wholeBreak, cutAt, cutHeard, bodyBarOf}
 use Rattle.composer.specs.Form.Song.{introOf, outroOf, introLength, songLength, songBarOf, formOf, decisionsOf, arrangeOf}
@@ -18,6 +19,7 @@ use Rattle.composer.specs.declared.form.Form.{Form}
 use Rattle.composer.specs.declared.form.plays.Plays.{Plays}
 use Rattle.composer.specs.declared.form.decisions.Decisions.{Decisions}
 use Rattle.composer.proofs.form.AskLaws.{plays-found}
+use Rattle.composer.proofs.form.BackLaws.{drums-return}
 use Rattle.composer.proofs.form.BodyLaws.{body-promise}
 use Rattle.composer.proofs.form.DecisionsLaws.{decide-counter}
 use Rattle.composer.proofs.form.EndsLaws.{end-bars-is, outro-length-is}
@@ -63,6 +65,16 @@ module _ (seed : ℕ) where
   unfolding formOf
   bass-over b h = rw (found-at b h) (over-pad (getD (f .plays) b silent) (rw (form-bar d b h) (song-over seed (introLength d) b)))
 
+  drums-at : (b : ℕ) → b < f .bars → strikes (λ p. p .drums) (playsAt f b) ≡ songBarOf d (introLength d) b .drums
+  unfolding formOf
+  drums-at b h = rw (found-at b h, form-bar d b h)
+
+  drums-back : (b : ℕ) → b + 1 < f .bars → strikes (λ p. p .drums) (playsAt f b) ≡ false → strikes (λ p. p .drums) (playsAt f (b + 1)) ≡ true → loopBarOf f (b + 1) ≡ 0
+  unfolding formOf
+  drums-back b h out back =
+      let c = drums-return d (introLength d) b (sym (drums-at b (omega arith)) ∙ out) (sym (drums-at (b + 1) h) ∙ back) in
+      omega (arith, c .0, c .1)
+
   body : BodyPromise (d .phrases) (bodyStrikes f (λ p. p .pad)) (bodyStrikes f (λ p. p .drums)) (bodyStrikes f (λ p. p .bass))
   body =
       promise-more (d .phrases) (λ b. bodyBarOf d b .pad) (λ b. bodyBarOf d b .drums) (λ b. bodyBarOf d b .bass) (bodyStrikes f (λ p. p .pad)) (bodyStrikes f (λ p. p .drums))
@@ -88,5 +100,6 @@ module _ (seed : ℕ) where
         «over-pad» = bass-over;
         body = body;
         «before-break» = λ whole. strikes-at (λ p. p .drums) (8 * (P / 2) - 1) (omega arith) (bar-before-break d (8 * (P / 2) - 1) whole (omega arith));
+        «drums-back» = drums-back;
         dip = dip-dropped d;
       }

@@ -1,5 +1,5 @@
--- What every song's form promises: demand 3's statements of chords, drums and bass with a bar for a page, and the form's own.
--- Definitions only.
+-- What every song's form promises: demand 3's statements of chords, drums and bass with a bar for a page, and the form's
+-- own. Definitions only.
 use mathlib.Core.Path.{_≡_}
 use mathlib.Core.Bool.{Bool, true, false, _&&_}
 use mathlib.Core.Logic.{_⊎_}
@@ -9,7 +9,7 @@ use Rattle.laws.specs.Runs.{Among, RunsAtMost, lacking}
 use Rattle.streams.specs.Stage.{streamOf}
 use Rattle.streams.specs.declared.stage.Stage.{Stage}
 use Rattle.composer.specs.Refusal.{Answer, Gives, Refuses}
-use Rattle.composer.specs.Form.{introBarsOf, bodyBarsOf, outroBarsOf}
+use Rattle.composer.specs.Form.{introBarsOf, bodyBarsOf, outroBarsOf, loopBarOf}
 use Rattle.composer.specs.Form.Plays.{silent, all}
 use Rattle.composer.specs.Form.Decisions.{decideOf}
 use Rattle.composer.specs.Form.Body.{wholeBreak, cutHeard}
@@ -61,6 +61,8 @@ pub record FormPromise (seed : ℕ) (f : Form) : Type 0 where
   pub body : BodyPromise (f .phrases) (bodyStrikes f (λ p. p .pad)) (bodyStrikes f (λ p. p .drums)) (bodyStrikes f (λ p. p .bass))
   -- a whole break is not preceded by a cut: the bar before it has drums
   pub «before-break» : wholeBreak (decisionsOf seed) ≡ true → bodyStrikes f (λ p. p .drums) (8 * (f .phrases / 2) - 1) ≡ true
+  -- drums that come back do so at loop bar 0
+  pub «drums-back» : (b : ℕ) → b + 1 < f .bars → strikes (λ p. p .drums) (playsAt f b) ≡ false → strikes (λ p. p .drums) (playsAt f (b + 1)) ≡ true → loopBarOf f (b + 1) ≡ 0
   -- the dip is dropped where phrase 1 was cut
   pub dip : cutHeard (decisionsOf seed) 1 ≡ true → f .dip ≡ false
 
