@@ -33,7 +33,7 @@ extern "C" {
 
 /* No sheet, page or list is longer, in bytes, no song has more bars, and no list more seeds. */
 #define SEQOCHANU_SHEET_MOST 5164
-#define SEQOCHANU_PAGE_MOST 653
+#define SEQOCHANU_PAGE_MOST 663
 #define SEQOCHANU_LIST_MOST 32768
 #define SEQOCHANU_BARS_MOST 64
 #define SEQOCHANU_COUNT_MOST 4096
@@ -41,7 +41,8 @@ extern "C" {
 /* Writes the whole song's sheet and answers its length; else -1, then -2. */
 int64_t seqochanu_sheet(uint8_t style, uint64_t seed, uint8_t *buf, size_t len);
 
-/* Writes the page of song bar `bar`, counted from 0, and answers its length; else -1, then -3, then -2. */
+/* Writes the page of song bar `bar`, counted from 0, and answers its length; else -1, then -3, then -2. A hit that
+ * falls before its bar line stands on the page of the bar before; docs/FORMAT.md has the rule. */
 int64_t seqochanu_bar_page(uint8_t style, uint64_t seed, uint64_t bar, uint8_t *buf, size_t len);
 
 /* Writes the first `count` seeds of a hall, each in 8 bytes, the highest first, and answers 8 * count; else -6, then

@@ -1,5 +1,6 @@
-//! Sheets and bar pages of the Rust's songs by document 01, into a buffer of the caller's: one pass over the
-//! song, nothing allocated, each number written where it comes to stand.
+//! Sheets and bar pages of the Rust's songs by document 01, and a page's hits by document 02's wish 4, into a buffer
+//! of the caller's: one pass over the song, two over a page's hits, nothing allocated, each number written where it
+//! comes to stand.
 
 use crate::compose::reach::form::{dips, intro_code, outro_code, phrases, plays_at};
 use crate::compose::reach::{kind_code, voice_code};
@@ -69,8 +70,25 @@ impl Out<'_> {
         e[6..].copy_from_slice(&h.gain.to_bits().to_be_bytes());
     }
 
-    /// The lanes' fields with the events that are `shown` by layer and loop bar.
-    fn lanes(&mut self, song: &Song, shown: impl Fn(u64, u8) -> bool + Copy) {
+    /// Those hits that are `shown` by their loop bar, and by whether they are before its line.
+    fn hits(&mut self, song: &Song, shown: impl Fn(u8, bool) -> bool) {
+        let bar_s = song.score.bar_s();
+        let mut bars = HitBars::new();
+        for h in &song.score.drums {
+            let bar = bars.next(h);
+            if shown(bar, h.at < f32::from(bar) * bar_s) {
+                self.hit(bar, h);
+            }
+        }
+    }
+
+    /// The lanes' fields with the notes that are `shown` by layer and loop bar, and with the `hits`.
+    fn lanes(
+        &mut self,
+        song: &Song,
+        shown: impl Fn(u64, u8) -> bool,
+        hits: impl FnOnce(&mut Self),
+    ) {
         let score = &song.score;
         let bars = 1.0 / score.bar_s();
         let notes = |layer: u64, notes: &[Note], out: &mut Self| {
@@ -83,15 +101,7 @@ impl Out<'_> {
         };
         self.measured(0x05, |out| notes(KEYS, &score.sparkle, out));
         self.measured(0x06, |out| notes(KEYS, &score.keys, out));
-        self.measured(0x07, |out| {
-            let mut bars = HitBars::new();
-            for h in &score.drums {
-                let bar = bars.next(h);
-                if shown(DRUMS, bar) {
-                    out.hit(bar, h);
-                }
-            }
-        });
+        self.measured(0x07, hits);
         self.measured(0x08, |out| notes(BASS, &score.bass, out));
     }
 
@@ -122,21 +132,31 @@ pub fn sheet(style: u8, seed: u64, song: &Song, form: &Form, buf: &mut [u8]) -> 
     out.field(0x02, &song.score.bpm.to_bits().to_be_bytes());
     out.field(0x03, song.score.bar_chords.as_flattened());
     out.field(0x04, &song.scale);
-    out.lanes(song, |_, _| true);
+    out.lanes(song, |_, _| true, |out| out.hits(song, |_, _| true));
     out.form(form);
     out.at
 }
 
 /// Writes the page of song bar `bar`; its length.
 pub fn page(song: &Song, form: &Form, bar: usize, buf: &mut [u8]) -> usize {
-    let (plays, shows) = (plays_at(form, bar), (bar + form.lead_in()) % 8);
+    let shows = |bar: usize| (bar + form.lead_in()) % 8;
+    let drums = |bar: usize| bar < form.bars() && plays_at(form, bar) & DRUMS != 0;
+    let (plays, here, next) = (plays_at(form, bar), shows(bar), shows(bar + 1));
     let mut out = Out { buf, at: 0 };
     match plays & PAD {
         0 => out.field(0x03, &[]),
-        _ => out.field(0x03, &song.score.bar_chords[shows]),
+        _ => out.field(0x03, &song.score.bar_chords[here]),
     }
-    out.lanes(song, |layer, bar| {
-        plays & layer != 0 && usize::from(bar) == shows
+    let noted = |layer: u64, of: u8| plays & layer != 0 && usize::from(of) == here;
+    out.lanes(song, noted, |out| {
+        if drums(bar) {
+            out.hits(song, |of, early| {
+                usize::from(of) == here && (bar == 0 || !early)
+            });
+        }
+        if drums(bar + 1) {
+            out.hits(song, |of, early| usize::from(of) == next && early);
+        }
     });
     out.at
 }

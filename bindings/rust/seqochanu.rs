@@ -32,7 +32,7 @@ pub mod raw {
 
 /// No sheet, page or list is longer, in bytes, and no list has more seeds.
 pub const SHEET_MOST: usize = 5164;
-pub const PAGE_MOST: usize = 653;
+pub const PAGE_MOST: usize = 663;
 pub const LIST_MOST: usize = 32768;
 pub const COUNT_MOST: u64 = 4096;
 
@@ -110,7 +110,8 @@ pub fn sheet(style: Style, seed: u64, buf: &mut [u8]) -> Result<usize, Refusal> 
     written(unsafe { raw::seqochanu_sheet(style as u8, seed, bytes, len) })
 }
 
-/// Writes the page of song bar `bar`, counted from 0; its length. A refusal leaves `buf` as it was.
+/// Writes the page of song bar `bar`, counted from 0; its length. A refusal leaves `buf` as it was. A hit that falls
+/// before its bar line stands on the page of the bar before.
 pub fn bar_page(style: Style, seed: u64, bar: u64, buf: &mut [u8]) -> Result<usize, Refusal> {
     let (bytes, len) = (buf.as_mut_ptr(), buf.len());
     written(unsafe { raw::seqochanu_bar_page(style as u8, seed, bar, bytes, len) })
@@ -157,6 +158,10 @@ pub fn hall_list(hall: u64, count: u64) -> Result<Vec<u64>, Refusal> {
 }
 
 #[cfg(test)]
+#[path = "hits_tests.rs"]
+mod hits_tests;
+
+#[cfg(test)]
 mod tests {
     use super::*;
     use std::collections::HashSet;
@@ -191,7 +196,7 @@ mod tests {
     }
 
     /// The bodies of the fields, by their tags.
-    fn fields(mut bytes: &[u8]) -> Vec<(u8, &[u8])> {
+    pub fn fields(mut bytes: &[u8]) -> Vec<(u8, &[u8])> {
         let mut all = Vec::new();
         while let [tag, high, low, rest @ ..] = bytes {
             let (body, after) = rest.split_at(u16::from_be_bytes([*high, *low]).into());

@@ -1,5 +1,5 @@
--- A score's lanes in bytes: each event has its lane's width and stands at its place, its first byte is its bar, and the events of one
--- bar stand together. Assumes nothing.
+-- A score's lanes in bytes: each event has its lane's width and stands at its place, its first byte is its bar, and the
+-- events of one bar stand together. Assumes nothing.
 use mathlib.Core.Path.{_≡_, refl, sym, ap, _∙_}
 use mathlib.Core.Bool.{Bool, true, false}
 use mathlib.Core.List.{List, [], _++_, map}
@@ -8,7 +8,7 @@ use native.Mathlib.Omega.{arith}
 use lib.Dec.{eqb, ltb}
 use lib.ListN.{length, getD, take, drop}
 use lib.Seq.{take-all, length-take-le}
-use Rattle.laws.specs.Lists.{joined}
+use Rattle.laws.specs.Lists.{joined, filterOf}
 use Rattle.laws.specs.Sorts.{count, All, Sorted}
 use Rattle.laws.specs.Writes.{Wrote}
 use Rattle.composer.specs.Note.{pastNote, noteBar, pastHit, hitBar}
@@ -16,8 +16,9 @@ use Rattle.composer.specs.Promise.{LanesPromise}
 use Rattle.composer.specs.declared.note.Hit.{Hit}
 use Rattle.composer.specs.declared.note.Note.{Note}
 use Rattle.composer.specs.declared.score.Score.{Score}
-use Rattle.pages.specs.Lane.{widthOf, countIn, noteBytes, hitBytes, barIn, eventsOf, runOf, earlier, drawnFor, runIn}
-use Rattle.pages.specs.Page.{shown, barSize}
+use Rattle.pages.specs.Bar.{shown}
+use Rattle.pages.specs.Lane.{widthOf, countIn, noteBytes, hitBytes, barIn, eventsOf, runOf, InLane, earlier, drawnFor, runIn}
+use Rattle.pages.specs.Page.{barSize}
 use Rattle.pages.specs.Writable.{SizedLanes}
 use Rattle.pages.specs.declared.lane.Lane.{Lane}
 use Rattle.laws.proofs.Counts.{count-most, count-filter, count-map, count-on, all-kept}
@@ -49,7 +50,7 @@ hit-bar h = refl
 notes-wide : (ns : List Note) → All (λ e. length e ≡ 14) (map noteBytes ns)
 notes-wide ns = all-map noteBytes (λ e. length e ≡ 14) ns (all-every (λ n. length (noteBytes n) ≡ 14) note-width ns)
 
-hits-wide : (hs : List Hit) → All (λ e. length e ≡ 10) (map hitBytes hs)
+pub hits-wide : (hs : List Hit) → All (λ e. length e ≡ 10) (map hitBytes hs)
 hits-wide hs = all-map hitBytes (λ e. length e ≡ 10) hs (all-every (λ h. length (hitBytes h) ≡ 10) hit-width hs)
 
 pub widths : (s : Score) (lane : Lane) → All (λ e. length e ≡ widthOf lane) (eventsOf s lane)
@@ -152,7 +153,7 @@ module _ (s : Score) (p : LanesPromise s) where
   run-drawn lane true bar = run-of-key barIn bar (eventsOf s lane) (bars-sorted lane)
   run-drawn lane false bar = refl
 
-  pub run-within : (lane : Lane) (on : Bool) (bar : ℕ) → (runIn s lane on bar .from ≤ runIn s lane on bar .to) × (runIn s lane on bar .to ≤ countIn s lane)
+  pub run-within : (lane : Lane) (on : Bool) (bar : ℕ) → InLane s lane (runIn s lane on bar)
   unfolding runIn
   run-within lane true bar =
       let es = eventsOf s lane in
@@ -177,6 +178,15 @@ module _ {A : Type 0} (bar : A → ℕ) (bytes : A → List ℕ) (same : (x : A)
 pub all-shown : {A : Type 0} (P : A → Type 0) (on : Bool) (xs : List A) → All P xs → All P (shown on xs)
 all-shown P true xs a = a
 all-shown P false xs a = tt
+
+pub filter-shown : {A : Type 0} (p : A → Bool) (on : Bool) (xs : List A) → filterOf p (shown on xs) ≡ shown on (filterOf p xs)
+unfolding filterOf
+filter-shown p true xs = refl
+filter-shown p false xs = refl
+
+pub shown-most : {A : Type 0} (on : Bool) (xs : List A) (m : ℕ) → length xs ≤ m → length (shown on xs) ≤ m
+shown-most true xs m h = h
+shown-most false xs m h = omega arith
 
 -- and how many bytes
 pub shown-size : (s : Score) (lane : Lane) (on : Bool) (v : ℕ) → length (joined (shown on (drawnFor v (eventsOf s lane)))) ≡ barSize s lane on v

@@ -2,6 +2,8 @@ pub mod AnswerLaws
 pub mod BytesLaws
 pub mod Demand3
 pub mod FiniteLaws
+pub mod HeardLaws
+pub mod HitsLaws
 pub mod LaneLaws
 pub mod PageLaws
 pub mod ReadLaws

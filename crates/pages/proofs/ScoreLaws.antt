@@ -1,4 +1,5 @@
--- What the composer promises of a score, in the words of a page: the notes that a bar shows, and that it shows some. Assumes nothing.
+-- What the composer promises of a score, in the words of a page: the notes that a bar shows, and that it shows some.
+-- Assumes nothing.
 use mathlib.Core.Path.{_≡_, refl, subst}
 use mathlib.Core.Bool.{Bool, true}
 use mathlib.Core.List.{List, [], map}
@@ -12,19 +13,19 @@ use Rattle.laws.specs.Lists.{joined}
 use Rattle.laws.specs.Sorts.{All}
 use Rattle.composer.specs.Bass.Promise.{SoundsIn}
 use Rattle.composer.specs.Harmony.{notesOf}
-use Rattle.composer.specs.Note.{pastNote, noteBar, pastHit, hitBar}
+use Rattle.composer.specs.Note.{pastNote, noteBar}
 use Rattle.composer.specs.Promise.{Sings, ScorePromise}
 use Rattle.composer.specs.declared.harmony.Scale.{Scale}
 use Rattle.composer.specs.declared.note.Note.{Note}
 use Rattle.composer.specs.declared.score.Score.{Score}
 use Rattle.composer.specs.declared.style.Style.{Style}
-use Rattle.pages.specs.Lane.{noteBytes, hitBytes, barIn, eventsOf, drawnFor}
-use Rattle.pages.specs.Page.{shown}
+use Rattle.pages.specs.Bar.{shown}
+use Rattle.pages.specs.Lane.{noteBytes, barIn, eventsOf, drawnFor}
 use Rattle.pages.specs.declared.lane.Lane.{Lane}
 use Rattle.laws.proofs.Counts.{count-some, all-filter}
 use Rattle.laws.proofs.Joins.{joined-at}
 use Rattle.laws.proofs.Sorts.{all-by, all-map}
-use Rattle.pages.proofs.LaneLaws.{note-bar, hit-bar, drawn-count, all-shown, shown-size}
+use Rattle.pages.proofs.LaneLaws.{note-bar, drawn-count, all-shown, shown-size}
 use Rattle.pages.proofs.PageLaws.{chord-notes}
 
 -- ---- a bar has some
@@ -59,10 +60,6 @@ module _ (P : ℕ → Type 0) (n : ℕ) (xs : List Note) (v : ℕ) (holds : (i :
 module _ (style : Style) (s : Score) (scale : Scale) (promise : ScorePromise style s scale) (bar : ℕ) (h : bar < 8) where
   pub chord-some : 0 < length (getD (notesOf (s .«bar_chords»)) bar [])
   chord-some = omega (arith, chord-notes s (promise .range .chord-size) bar h)
-
-  pub hits-some : 0 < length (joined (drawnFor bar (eventsOf s Lane.Hits)))
-  hits-some =
-      omega (arith, shown-size s Lane.Hits true bar, drawn-some hitBar hitBytes hit-bar pastHit (s .«hit_count») (s .hits) bar (omega (arith, promise .lanes .hits .few, promise .lanes .hits .size)) (promise .hit-in-each bar h))
 
   pub bass-some : 0 < length (joined (drawnFor bar (eventsOf s Lane.Bass)))
   bass-some =

@@ -1,14 +1,15 @@
--- Demand 3: one claim about all pages of a song, in the words of document 01. Definitions only.
+-- Demand 3: one claim about all pages of a song, in the words of document 01, with hits as document 02 has them.
+-- Definitions only.
 use mathlib.Core.Path.{_≡_}
 use mathlib.Core.Bool.{Bool, true, cond}
 use mathlib.Core.List.{List, [], _++_}
-use Prim.Native.Nat.{ℕ, zero, suc, _+_, _*_, _%_, _≤_, _<_}
+use Prim.Native.Nat.{ℕ, zero, suc, _+_, _*_, _/_, _%_, _≤_, _<_}
 use lib.Dec.{eqb, ltb}
 use lib.ListN.{length, getD, take, drop}
 use Rattle.composer.specs.Bass.Promise.{SoundsIn}
 use Rattle.composer.specs.Chord.{pastChord, RootPosition}
 use Rattle.composer.specs.Compose.{composeOf}
-use Rattle.composer.specs.Form.{introBarsOf}
+use Rattle.composer.specs.Form.{introBarsOf, loopBarOf}
 use Rattle.composer.specs.Form.Promise.{BodyPromise}
 use Rattle.composer.specs.Form.Song.{arrangeOf}
 use Rattle.composer.specs.Promise.{Sings}
@@ -18,7 +19,8 @@ use Rattle.composer.specs.declared.chord.Chord.{Chord}
 use Rattle.composer.specs.declared.compose.Composed.{Composed}
 use Rattle.composer.specs.declared.style.Style.{Style}
 use Rattle.pages.specs.Answer.{bytesOf, CallAnswers}
-use Rattle.pages.specs.Page.{loopBarOf, pageAsked}
+use Rattle.pages.specs.Page.{pageAsked}
+use Rattle.pages.specs.Sheet.{sheetAsked}
 
 -- ---- reading a page
 -- the body of the first field with this tag among the first n fields
@@ -32,13 +34,22 @@ bodyIn (suc n) tag bytes =
 abbrev pub bodyOf : ℕ → List ℕ → List ℕ
 bodyOf tag page = bodyIn 5 tag page
 
--- a page has chord, hits or bass where its 0x03, 0x07 or 0x08 is longer than 0
+-- a page has chord or bass where its 0x03 or 0x08 is longer than 0
 abbrev pub has : ℕ → List ℕ → Bool
 has tag page = ltb 0 (length (bodyOf tag page))
 
 -- the MIDI numbers of a page's lead or bass: each note has 14 bytes, and after bar and time comes its number
 abbrev pub IsNote : ℕ → List ℕ → ℕ → Type 0
 IsNote tag page midi = (i : ℕ) × (14 * i < length (bodyOf tag page)) × (getD (bodyOf tag page) (14 * i + 5) 0 ≡ midi)
+
+-- ---- reading a sheet
+-- 0x0A, a byte for each song bar; a sheet has ten fields
+abbrev pub playsIn : List ℕ → List ℕ
+playsIn sheet = bodyIn 10 0x0a sheet
+
+-- bit 2 of song bar b's byte
+abbrev pub drumBit : List ℕ → ℕ → Bool
+drumBit sheet b = eqb (getD (playsIn sheet) b 0 / 4 % 2) 1
 
 -- ---- all pages of a song
 -- what compose gives for this style and seed
@@ -53,19 +64,33 @@ chordAt style seed bar = getD (songOf style seed .score .«bar_chords») bar pas
 abbrev pub pageAt : Style → ℕ → ℕ → List ℕ
 pageAt style seed b = bytesOf (pageAsked (styleNumberOf style) seed b)
 
+-- the sheet that sheet writes
+abbrev pub sheetFor : Style → ℕ → List ℕ
+sheetFor style seed = bytesOf (sheetAsked (styleNumberOf style) seed)
+
+-- the page of song bar b has hits by the bar's drum bit, whatever its 0x07 holds
+abbrev pub hasHits : Style → ℕ → ℕ → Bool
+hasHits style seed b = drumBit (sheetFor style seed) b
+
 -- page b of the body, the 8P song bars after the intro
 abbrev pub bodyPage : Style → ℕ → ℕ → List ℕ
 bodyPage style seed b = pageAt style seed (introBarsOf (arrangeOf seed) + b)
 
 -- what a lead note and a bass note may be is the composer's `Sings` and `SoundsIn`
 pub record Demand3 (style : Style) (seed : ℕ) : Type 0 where
-  -- for every song bar, intro and outro included, bar page writes this page into a buffer long enough: `CallAnswers` is
-  -- about the `writtenOf` and the `bufferOf` of the contract of `bar_page`
+  -- for every song bar, intro and outro included, bar page writes this page into a buffer long enough: `CallAnswers`
+  -- is about the `writtenOf` and the `bufferOf` of the contract of `bar_page`
   pub written : (b : ℕ) → b < arrangeOf seed .bars → (buf : List ℕ) → length (pageAt style seed b) ≤ length buf
       → CallAnswers (pageAsked (styleNumberOf style) seed b) buf (Gives (length (pageAt style seed b))) (pageAt style seed b ++ drop (length (pageAt style seed b)) buf)
+  -- the sheet too, and its 0x0A has a byte for each song bar
+  pub sheet-written : (buf : List ℕ) → length (sheetFor style seed) ≤ length buf
+      → CallAnswers (sheetAsked (styleNumberOf style) seed) buf (Gives (length (sheetFor style seed))) (sheetFor style seed ++ drop (length (sheetFor style seed)) buf)
+  pub sheet-bars : length (playsIn (sheetFor style seed)) ≡ arrangeOf seed .bars
+  -- the body is part of the song
+  pub inside : introBarsOf (arrangeOf seed) + 8 * arrangeOf seed .phrases ≤ arrangeOf seed .bars
   -- which pages of the body have chord, hits and bass; P is the number of phrases in the seed's form
   pub phrases : (4 ≤ arrangeOf seed .phrases) × (arrangeOf seed .phrases ≤ 6)
-  pub body : BodyPromise (arrangeOf seed .phrases) (λ b. has 0x03 (bodyPage style seed b)) (λ b. has 0x07 (bodyPage style seed b)) (λ b. has 0x08 (bodyPage style seed b))
+  pub body : BodyPromise (arrangeOf seed .phrases) (λ b. has 0x03 (bodyPage style seed b)) (λ b. hasHits style seed (introBarsOf (arrangeOf seed) + b)) (λ b. has 0x08 (bodyPage style seed b))
   -- the melody scale has 5 or 6 entries in an array of six, the song eight chords of root, third, fifth and seventh,
   -- and a page whole notes: so nothing below is read past an end
   pub entries : (5 ≤ songOf style seed .scale .n) × (songOf style seed .scale .n ≤ 6) × (length (songOf style seed .scale .pcs) ≡ 6)

@@ -47,10 +47,14 @@ eventsOf s Lane.Keys = map noteBytes (take (s .«keys_count») (s .keys))
 eventsOf s Lane.Hits = map hitBytes (take (s .«hit_count») (s .hits))
 eventsOf s Lane.Bass = map noteBytes (take (s .«bass_count») (s .bass))
 
-abbrev pub runOf : Run → List (List ℕ) → List (List ℕ)
+abbrev pub runOf : {A : Type 0} → Run → List A → List A
 runOf run es = take (run .to - run .from) (drop (run .from) es)
 
--- a run stands in a lane, and no lane has more than 128 events
+-- a run stands in a lane
+abbrev pub InLane : Score → Lane → Run → Type 0
+InLane s lane run = (run .from ≤ run .to) × (run .to ≤ countIn s lane)
+
+-- a run of any lane: none has more than 128 events
 abbrev pub Held : Run → Type 0
 Held run = (run .from ≤ run .to) × (run .to ≤ 128)
 

@@ -1,6 +1,10 @@
 pub mod Answer
+pub mod Bar
 pub mod Bytes
 pub mod Demand3
+pub mod Heard
+pub mod Hits
+pub mod Inner
 pub mod Lane
 pub mod Page
 pub mod Reply

@@ -6,7 +6,7 @@ ghost use Rattle.laws.specs.Lists.{joined};
 ghost use Rattle.laws.specs.Writes.{Wrote};
 ghost use Rattle.composer.specs.Promise.{LanesPromise};
 ghost use Rattle.pages.specs.Bytes.{field};
-ghost use Rattle.pages.specs.Lane.{tagOf, widthOf, countIn, noteBytes, hitBytes, eventsOf, runOf, barRun, runIn};
+ghost use Rattle.pages.specs.Lane.{tagOf, widthOf, countIn, noteBytes, hitBytes, eventsOf, runOf, InLane, barRun, runIn};
 ghost use Rattle.pages.specs.Writable.{FiniteNote, FiniteHit, Writable};
 ghost use Rattle.pages.specs.declared.lane.Lane.{Lane};
 use crate::put::put_f32;
@@ -79,7 +79,7 @@ fn put_note(buf: &mut [u8], at: usize, n: Note) -> usize
     put_f32(buf, d, n.dur)
 }
 
-fn put_hit(buf: &mut [u8], at: usize, h: Hit) -> usize
+pub(crate) fn put_hit(buf: &mut [u8], at: usize, h: Hit) -> usize
     requires { ⌜ FiniteHit h ⌝ }
     requires { ⌜ at + 10 ≤ length (now buf) ⌝ }
     ensures { λ r. ⌜ Wrote (now (buf .entry)) (now (buf .exit)) at r 10 (hitBytes h) ⌝ }
@@ -95,7 +95,7 @@ fn put_hit(buf: &mut [u8], at: usize, h: Hit) -> usize
 // The lead's notes from `run.from` on, before `run.to`.
 fn put_lead(buf: &mut [u8], at: usize, s: Score, run: Run) -> usize
     requires { ⌜ Writable s ⌝ }
-    requires { ⌜ (run .from ≤ run .to) × (run .to ≤ countIn s Lane.Lead) ⌝ }
+    requires { ⌜ InLane s Lane.Lead run ⌝ }
     requires { ⌜ at + 14 * (run .to - run .from) ≤ length (now buf) ⌝ }
     ensures { λ r. ⌜ Wrote (now (buf .entry)) (now (buf .exit)) at r (14 * (run .to - run .from)) (joined (runOf run (eventsOf s Lane.Lead))) ⌝ }
 {
@@ -113,7 +113,7 @@ fn put_lead(buf: &mut [u8], at: usize, s: Score, run: Run) -> usize
 // The keys' notes from `run.from` on, before `run.to`.
 fn put_keys(buf: &mut [u8], at: usize, s: Score, run: Run) -> usize
     requires { ⌜ Writable s ⌝ }
-    requires { ⌜ (run .from ≤ run .to) × (run .to ≤ countIn s Lane.Keys) ⌝ }
+    requires { ⌜ InLane s Lane.Keys run ⌝ }
     requires { ⌜ at + 14 * (run .to - run .from) ≤ length (now buf) ⌝ }
     ensures { λ r. ⌜ Wrote (now (buf .entry)) (now (buf .exit)) at r (14 * (run .to - run .from)) (joined (runOf run (eventsOf s Lane.Keys))) ⌝ }
 {
@@ -131,7 +131,7 @@ fn put_keys(buf: &mut [u8], at: usize, s: Score, run: Run) -> usize
 // The drums' hits from `run.from` on, before `run.to`.
 fn put_hits(buf: &mut [u8], at: usize, s: Score, run: Run) -> usize
     requires { ⌜ Writable s ⌝ }
-    requires { ⌜ (run .from ≤ run .to) × (run .to ≤ countIn s Lane.Hits) ⌝ }
+    requires { ⌜ InLane s Lane.Hits run ⌝ }
     requires { ⌜ at + 10 * (run .to - run .from) ≤ length (now buf) ⌝ }
     ensures { λ r. ⌜ Wrote (now (buf .entry)) (now (buf .exit)) at r (10 * (run .to - run .from)) (joined (runOf run (eventsOf s Lane.Hits))) ⌝ }
 {
@@ -149,7 +149,7 @@ fn put_hits(buf: &mut [u8], at: usize, s: Score, run: Run) -> usize
 // The bass's notes from `run.from` on, before `run.to`.
 fn put_bass(buf: &mut [u8], at: usize, s: Score, run: Run) -> usize
     requires { ⌜ Writable s ⌝ }
-    requires { ⌜ (run .from ≤ run .to) × (run .to ≤ countIn s Lane.Bass) ⌝ }
+    requires { ⌜ InLane s Lane.Bass run ⌝ }
     requires { ⌜ at + 14 * (run .to - run .from) ≤ length (now buf) ⌝ }
     ensures { λ r. ⌜ Wrote (now (buf .entry)) (now (buf .exit)) at r (14 * (run .to - run .from)) (joined (runOf run (eventsOf s Lane.Bass))) ⌝ }
 {
@@ -167,7 +167,7 @@ fn put_bass(buf: &mut [u8], at: usize, s: Score, run: Run) -> usize
 // A run of a lane's events.
 fn put_events(buf: &mut [u8], at: usize, s: Score, lane: Lane, run: Run) -> usize
     requires { ⌜ Writable s ⌝ }
-    requires { ⌜ (run .from ≤ run .to) × (run .to ≤ countIn s lane) ⌝ }
+    requires { ⌜ InLane s lane run ⌝ }
     requires { ⌜ at + widthOf lane * (run .to - run .from) ≤ length (now buf) ⌝ }
     ensures { λ r. ⌜ Wrote (now (buf .entry)) (now (buf .exit)) at r (widthOf lane * (run .to - run .from)) (joined (runOf run (eventsOf s lane))) ⌝ }
 {
@@ -182,7 +182,7 @@ fn put_events(buf: &mut [u8], at: usize, s: Score, lane: Lane, run: Run) -> usiz
 // A run of a lane's events as the lane's field.
 pub(crate) fn put_run(buf: &mut [u8], at: usize, s: Score, lane: Lane, run: Run) -> usize
     requires { ⌜ Writable s ⌝ }
-    requires { ⌜ (run .from ≤ run .to) × (run .to ≤ countIn s lane) ⌝ }
+    requires { ⌜ InLane s lane run ⌝ }
     requires { ⌜ at + (3 + widthOf lane * (run .to - run .from)) ≤ length (now buf) ⌝ }
     ensures { λ r. ⌜ Wrote (now (buf .entry)) (now (buf .exit)) at r (3 + widthOf lane * (run .to - run .from)) (field (tagOf lane) (joined (runOf run (eventsOf s lane)))) ⌝ }
 {

@@ -3,12 +3,18 @@ ghost use mathlib.Core.Path.{_≡_};
 ghost use Prim.Native.Nat.{_+_, _<_, _≤_};
 ghost use lib.ListN.{length};
 ghost use Rattle.laws.specs.Writes.{Wrote};
+ghost use Rattle.composer.specs.Form.{loopBarOf};
 ghost use Rattle.composer.specs.Promise.{LanesPromise};
 ghost use Rattle.pages.specs.Answer.{Writes, writtenOf, bufferOf};
+ghost use Rattle.pages.specs.Hits.{pageHits};
+ghost use Rattle.pages.specs.Inner.Hits.{runHits, HitsWithin};
 ghost use Rattle.pages.specs.Lane.{runSize, Held};
-ghost use Rattle.pages.specs.Page.{Chorded, loopBarOf, chordSize, chordField, runsIn, runsSize, pageSize, pageBytes, pageOf, pageAsked};
+ghost use Rattle.pages.specs.Page.{Chorded, chordSize, chordField, runsIn, runsSize, pageSize, pageBytes, pageOf, pageAsked};
 ghost use Rattle.pages.specs.Writable.{Paged};
 use crate::answer::Written;
+use crate::hits::HeardRuns;
+use crate::hits::heard_runs;
+use crate::hits::put_page_hits;
 use crate::lane::Lane;
 use crate::lane::Run;
 use crate::lane::put_run;
@@ -25,15 +31,6 @@ use composer::harmony::bar_chords;
 use composer::refusal::Outcome;
 use composer::refusal::Refusal;
 use composer::score::Score;
-
-// The loop bar that a song bar shows.
-pub fn loop_bar(f: Form, bar: u64) -> u8
-    ensures { λ r. ⌜ r ≡ loopBarOf f bar ⌝ }
-    ensures { λ r. ⌜ r < 8 ⌝ }
-{
-    let lead_in = f.lead_in();
-    ((bar % 8 + lead_in as u64) % 8) as u8
-}
 
 fn chord_size(on: bool) -> usize
     ensures { λ r. ⌜ r ≡ chordSize on ⌝ }
@@ -59,11 +56,10 @@ fn put_chord(buf: &mut [u8], at: usize, s: Score, on: bool, bar: u8) -> usize
     put_bytes(buf, a, &notes)
 }
 
-// Where the events of one loop bar stand in each lane.
+// Where the notes of one loop bar stand in each lane.
 pub struct Runs {
     pub lead: Run,
     pub keys: Run,
-    pub hits: Run,
     pub bass: Run,
 }
 
@@ -75,12 +71,10 @@ fn runs_in(s: Score, p: Plays, bar: u8) -> Runs
 {
     let lead = run_in(s, Lane::Lead, p.keys, bar);
     let keys = run_in(s, Lane::Keys, p.keys, bar);
-    let hits = run_in(s, Lane::Hits, p.drums, bar);
     let bass = run_in(s, Lane::Bass, p.bass, bar);
     Runs {
         lead: lead,
         keys: keys,
-        hits: hits,
         bass: bass,
     }
 }
@@ -95,56 +89,59 @@ fn run_size(lane: Lane, run: Run) -> usize
     width * (run.to - run.from)
 }
 
-fn page_size(pad: bool, runs: Runs) -> usize
-    requires { ⌜ (Held (runs .lead) × Held (runs .keys)) × (Held (runs .hits) × Held (runs .bass)) ⌝ }
-    ensures { λ r. ⌜ r ≡ runsSize pad runs ⌝ }
+fn page_size(pad: bool, runs: Runs, hits: usize) -> usize
+    requires { ⌜ (Held (runs .lead) × Held (runs .keys)) × Held (runs .bass) ⌝ }
+    requires { ⌜ hits ≤ 196 ⌝ }
+    ensures { λ r. ⌜ r ≡ runsSize pad runs hits ⌝ }
 {
     let lead = runs.lead;
     let keys = runs.keys;
-    let hits = runs.hits;
     let bass = runs.bass;
     let chord_bytes = chord_size(pad);
     let lead_bytes = run_size(Lane::Lead, lead);
     let keys_bytes = run_size(Lane::Keys, keys);
-    let hit_bytes = run_size(Lane::Hits, hits);
     let bass_bytes = run_size(Lane::Bass, bass);
-    15 + chord_bytes + lead_bytes + keys_bytes + hit_bytes + bass_bytes
+    15 + chord_bytes + lead_bytes + keys_bytes + 10 * hits + bass_bytes
 }
 
-// The page of one loop bar by the runs of its events.
-fn put_page(buf: &mut [u8], s: Score, p: Plays, runs: Runs, bar: u8) -> usize
+// The page by the runs of one loop bar's notes, and of the hits that are heard in it.
+fn put_page(buf: &mut [u8], s: Score, p: Plays, runs: Runs, hits: HeardRuns, bar: u8) -> usize
     requires { ⌜ Paged s ⌝ }
     requires { ⌜ Chorded s ⌝ }
     requires { ⌜ bar < 8 ⌝ }
     requires { ⌜ runs ≡ runsIn s p bar ⌝ }
-    requires { ⌜ pageSize s p bar ≤ length (now buf) ⌝ }
-    ensures { λ r. ⌜ Wrote (now (buf .entry)) (now (buf .exit)) 0 r (pageSize s p bar) (pageBytes s p bar) ⌝ }
+    requires { ⌜ HitsWithin s hits ⌝ }
+    requires { ⌜ hits .count ≤ 196 ⌝ }
+    requires { ⌜ pageSize s p bar (hits .count) ≤ length (now buf) ⌝ }
+    ensures { λ r. ⌜ Wrote (now (buf .entry)) (now (buf .exit)) 0 r (pageSize s p bar (hits .count)) (pageBytes s p bar (runHits s hits)) ⌝ }
 {
     let lead = runs.lead;
     let keys = runs.keys;
-    let hits = runs.hits;
     let bass = runs.bass;
     let a = put_chord(buf, 0, s, p.pad, bar);
     let b = put_run(buf, a, s, Lane::Lead, lead);
     let c = put_run(buf, b, s, Lane::Keys, keys);
-    let d = put_run(buf, c, s, Lane::Hits, hits);
+    let d = put_page_hits(buf, c, s, hits);
     put_run(buf, d, s, Lane::Bass, bass)
 }
 
-// The page of one loop bar and the layers that play, if the buffer is as long as this very page.
-fn page_into(s: Score, p: Plays, bar: u8, buf: &mut [u8]) -> Written
+// The page of a song bar, if the buffer is as long as this very page. The layers that play are known, but for the
+// hits: they are of two bars, and are looked up.
+fn page_into(s: Score, f: Form, p: Plays, bar: u64, buf: &mut [u8]) -> Written
     requires { ⌜ Paged s ⌝ }
     requires { ⌜ Chorded s ⌝ }
-    requires { ⌜ bar < 8 ⌝ }
-    ensures { λ r. ⌜ r ≡ writtenOf (length (now (buf .entry))) (Writes (pageBytes s p bar)) ⌝ }
-    ensures { λ r. ⌜ now (buf .exit) ≡ bufferOf (now (buf .entry)) (Writes (pageBytes s p bar)) ⌝ }
+    requires { ⌜ bar < f .bars ⌝ }
+    ensures { λ r. ⌜ r ≡ writtenOf (length (now (buf .entry))) (Writes (pageBytes s p (loopBarOf f bar) (pageHits s f bar))) ⌝ }
+    ensures { λ r. ⌜ now (buf .exit) ≡ bufferOf (now (buf .entry)) (Writes (pageBytes s p (loopBarOf f bar) (pageHits s f bar))) ⌝ }
 {
-    let runs = runs_in(s, p, bar);
-    let size = page_size(p.pad, runs);
+    let looped = f.loop_bar(bar);
+    let hits = heard_runs(s, f, bar);
+    let runs = runs_in(s, p, looped);
+    let size = page_size(p.pad, runs, hits.count);
     if buf.len() < size {
         return Written::Refused(Refusal::ShortBuffer);
     }
-    let n = put_page(buf, s, p, runs, bar);
+    let n = put_page(buf, s, p, runs, hits, looped);
     Written::Bytes(n)
 }
 
@@ -162,13 +159,13 @@ fn page_of(s: Score, f: Form, bar: u64, buf: &mut [u8]) -> Written
         };
         return Written::Refused(r);
     };
-    let shown = loop_bar(f, bar);
-    page_into(s, p, shown, buf)
+    page_into(s, f, p, bar, buf)
 }
 
 // The page of song bar `bar` of a seed's song in style 0 or 1, from the buffer's first byte on, and its
-// length; what lies beyond stays. Any other style is refused with 1, then a bar that the song does not
-// have with 3, then a buffer that is shorter than this page with 2; a refusal writes nothing.
+// length; what lies beyond stays. A hit before its bar line stands on the page of the bar before. Any other
+// style is refused with 1, then a bar that the song does not have with 3, then a buffer that is shorter than
+// this page with 2; a refusal writes nothing.
 pub fn bar_page(style: u8, seed: u64, bar: u64, buf: &mut [u8]) -> Written
     ensures { λ r. ⌜ r ≡ writtenOf (length (now (buf .entry))) (pageAsked style seed bar) ⌝ }
     ensures { λ r. ⌜ now (buf .exit) ≡ bufferOf (now (buf .entry)) (pageAsked style seed bar) ⌝ }

@@ -133,7 +133,7 @@ fn sheet_fold(style: u8, seed: u64) -> u64 {
 }
 
 fn page_fold(style: u8, seed: u64, bar: u64) -> u64 {
-    let mut buf = [0u8; 653];
+    let mut buf = [0u8; 663];
     let written = bar_page(style, seed, bar, &mut buf);
     written_fold(written, &buf)
 }

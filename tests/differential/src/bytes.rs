@@ -1,12 +1,14 @@
-//! Sheets and bar pages in bytes, laid out by document 01 from the Rust's own songs and forms.
+//! Sheets and bar pages in bytes, laid out from the Rust's own songs and forms by document 01, and a page's hits by
+//! document 02, which moves the early ones.
 
 use crate::compose::reach::form::{dips, intro_code, outro_code, phrases, plays_at};
 use crate::compose::reach::{Hit, Note, STYLES, Take, kind_code, take, voice_code};
 use crate::compose::{Form, arrange};
+use crate::early::{drums_at, is_early, shows};
 
 /// The most bytes of a sheet, by document 01, and of a page, by what is proved.
 pub const SHEET_MOST: usize = 5164;
-pub const PAGE_MOST: usize = 653;
+pub const PAGE_MOST: usize = 663;
 
 /// A lane's field, the bit of the layer that it follows on a page, and the width of its events.
 struct Lane {
@@ -49,29 +51,39 @@ fn hit(h: &Hit, bar: u8) -> Vec<u8> {
     [&[bar, kind_code(h) as u8], &at[..], &gain].concat()
 }
 
-/// The field of those events of a lane that are `shown` by layer and bar.
-fn lane_field<E>(
-    lane: Lane,
+/// Those events of a lane that are `shown`, by the event and the loop bar that it was drawn for.
+fn laid<E>(
+    lane: &Lane,
     (events, bars): (&[E], &[u64]),
     bytes: impl Fn(&E, u8) -> Vec<u8>,
-    shown: impl Fn(u64, u64) -> bool,
+    shown: impl Fn(&E, u64) -> bool,
 ) -> Vec<u8> {
     let body: Vec<u8> = (events.iter().zip(bars))
-        .filter(|(_, bar)| shown(lane.layer, **bar))
+        .filter(|(event, bar)| shown(event, **bar))
         .flat_map(|(event, bar)| bytes(event, *bar as u8))
         .collect();
     assert_eq!(body.len() % lane.width, 0, "each event has its width");
-    field(lane.tag, &body)
+    body
 }
 
-/// The lanes' fields, 0x05 to 0x08.
-fn lanes(take: &Take, shown: impl Fn(u64, u64) -> bool + Copy) -> Vec<u8> {
+/// Those hits that are `shown`.
+fn laid_hits(take: &Take, shown: impl Fn(&Hit, u64) -> bool) -> Vec<u8> {
+    let hits = (&take.score.drums[..], &take.bars.hits[..]);
+    laid(&HITS, hits, hit, shown)
+}
+
+/// The lanes' fields, 0x05 to 0x08: the notes that are `shown` by layer and bar, and these `hits`.
+fn lanes(take: &Take, shown: impl Fn(u64, u64) -> bool, hits: &[u8]) -> Vec<u8> {
     let (score, bars) = (&take.score, &take.bars);
+    let notes = |lane: Lane, notes: &[Note], bars: &[u64]| {
+        let body = laid(&lane, (notes, bars), note, |_, bar| shown(lane.layer, bar));
+        field(lane.tag, &body)
+    };
     [
-        lane_field(LEAD, (&score.sparkle, &bars.lead), note, shown),
-        lane_field(KEYS, (&score.keys, &bars.keys), note, shown),
-        lane_field(HITS, (&score.drums, &bars.hits), hit, shown),
-        lane_field(BASS, (&score.bass, &bars.bass), note, shown),
+        notes(LEAD, &score.sparkle, &bars.lead),
+        notes(KEYS, &score.keys, &bars.keys),
+        field(HITS.tag, hits),
+        notes(BASS, &score.bass, &bars.bass),
     ]
     .concat()
 }
@@ -109,22 +121,37 @@ fn tail(form: &Form) -> Vec<u8> {
 }
 
 pub fn sheet(style: u8, seed: u64, take: &Take, form: &Form) -> Vec<u8> {
-    let all = |_, _| true;
-    let bytes = [head(style, seed, take), lanes(take, all), tail(form)].concat();
+    let hits = laid_hits(take, |_, _| true);
+    let lanes = lanes(take, |_, _| true, &hits);
+    let bytes = [head(style, seed, take), lanes, tail(form)].concat();
     assert!(bytes.len() <= SHEET_MOST, "a sheet of {}", bytes.len());
     bytes
 }
 
-/// The page of song bar `bar`: the chord and the events of the loop bar that it shows, and nothing of a
-/// layer that is silent there.
+/// A page's hits: those of its own bar that are not early, in bar 0 all of them, as no page is before; then the early
+/// ones of the bar after. Where a bar's drums are silent, or the song has no such bar, none of its hits are played.
+fn page_hits(take: &Take, form: &Form, bar: usize) -> Vec<u8> {
+    let played = |bar: usize, of: u64| drums_at(form, bar) && of == shows(form, bar);
+    let own = laid_hits(take, |hit, of| {
+        played(bar, of) && (bar == 0 || !is_early(take, hit, of))
+    });
+    let after = laid_hits(take, |hit, of| {
+        played(bar + 1, of) && is_early(take, hit, of)
+    });
+    [own, after].concat()
+}
+
+/// The page of song bar `bar`: the chord and the notes of the loop bar that it shows, nothing of a layer that is
+/// silent there, and its hits.
 pub fn page(take: &Take, form: &Form, bar: usize) -> Vec<u8> {
-    let (plays, shows) = (plays_at(form, bar), (bar + form.lead_in()) % 8);
+    let (plays, shows) = (plays_at(form, bar), shows(form, bar));
     let chord: &[u8] = match plays & PAD {
         0 => &[],
-        _ => &take.score.bar_chords[shows],
+        _ => &take.score.bar_chords[shows as usize],
     };
-    let here = |layer, bar| plays & layer != 0 && bar == shows as u64;
-    let bytes = [field(0x03, chord), lanes(take, here)].concat();
+    let here = |layer, of| plays & layer != 0 && of == shows;
+    let hits = page_hits(take, form, bar);
+    let bytes = [field(0x03, chord), lanes(take, here, &hits)].concat();
     assert!(bytes.len() <= PAGE_MOST, "a page of {}", bytes.len());
     bytes
 }

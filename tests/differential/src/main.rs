@@ -21,6 +21,7 @@ mod seqochanu;
 mod bytes;
 mod calls;
 mod draws;
+mod early;
 mod forms;
 mod halls;
 mod hits;

@@ -3,7 +3,7 @@
 
 use crate::bytes::{PAGE_MOST, SHEET_MOST, page, sheet};
 use crate::compose::reach::form::plays_at;
-use crate::compose::reach::{STAGES, STYLES, coin, kicks, pick, take};
+use crate::compose::reach::{STAGES, STYLES, Take, coin, kicks, pick, take};
 use crate::compose::{Form, arrange};
 use crate::draws::stream_with;
 use crate::dsp::reach::{next_u64, seed_of, stream};
@@ -11,7 +11,7 @@ use crate::halls::{HALLS, LIST_MOST, list};
 use crate::reread::judge::judge;
 use crate::scores::unbeaten;
 use crate::words::{kick_words, words_of};
-use crate::{forms, sample, songs};
+use crate::{early, forms, sample, songs};
 use std::collections::{BTreeMap, BTreeSet};
 
 /// What is asked, its two arguments, the answer.
@@ -83,8 +83,9 @@ fn song_lines(lines: &mut Vec<Line>, seed: u64) {
 }
 
 /// The bars whose pages are recorded: the first and the last of intro, body and outro, the body's first
-/// eight, which show every loop bar, and the first with each set of layers.
-fn chosen(form: &Form) -> BTreeSet<usize> {
+/// eight, which show every loop bar, the first with each set of layers, and for each thing of early hits
+/// the first that shows it, with the bar before, whose page gains such a hit or does not.
+fn chosen(take: &Take, form: &Form) -> BTreeSet<usize> {
     let parts = form.parts().into_iter().filter(|part| !part.is_empty());
     let ends = parts.flat_map(|part| [part.start, part.end - 1]);
     let phrase = form.intro()..form.intro() + 8;
@@ -92,7 +93,11 @@ fn chosen(form: &Form) -> BTreeSet<usize> {
         .rev()
         .map(|bar| (plays_at(form, bar), bar))
         .collect();
-    ends.chain(phrase).chain(layers.into_values()).collect()
+    let early = early::firsts(take, form).into_values();
+    // one of them is shown by the bar after the last, which has no page
+    let gained = early.flat_map(|bar| bar.saturating_sub(1)..=bar.min(form.bars() - 1));
+    let firsts = layers.into_values().chain(gained);
+    ends.chain(phrase).chain(firsts).collect()
 }
 
 /// A fold of the length of what is written, and of the buffer of `most` zeros that it is written to.
@@ -111,7 +116,7 @@ fn page_lines(lines: &mut Vec<Line>, seed: u64) {
         let take = take(STYLES[usize::from(style)], seed);
         let sheet = sheet(style, seed, &take, &form);
         lines.push((what, seed, 0, byte_fold(&sheet, SHEET_MOST)));
-        for bar in chosen(&form) {
+        for bar in chosen(&take, &form) {
             let page = page(&take, &form, bar);
             lines.push((what, seed, bar as u64 + 1, byte_fold(&page, PAGE_MOST)));
         }

@@ -1,7 +1,9 @@
 //! The seeds whose songs are recorded: among them is each thing that `shown` names.
 
+use crate::compose::arrange;
 use crate::compose::reach::{STAGES, STYLES, pick, stated, take, tempo_drawn, voice_code};
 use crate::draws::seed_with;
+use crate::early;
 use std::collections::BTreeSet;
 
 /// Songs that are rare, two of each, found by trying seeds one by one: a hiphop statement that falls
@@ -17,8 +19,8 @@ pub const RARE: [u64; 6] = [
 
 /// How many things songs can show: 31 loops, 12 keys, 18 tempos, 4 grooves, 5 voices; in each style a
 /// statement that falls back, an empty first and last bar of the lead, and a tempo drawn at an exact
-/// half; in hiphop 98 hits, and in sleep no keys.
-const THINGS: usize = 80;
+/// half; in hiphop 98 hits and the six of early.rs, and in sleep no keys.
+const THINGS: usize = 86;
 
 /// What the song of this seed shows.
 fn shown(style: usize, seed: u64) -> Vec<String> {
@@ -45,6 +47,9 @@ fn shown(style: usize, seed: u64) -> Vec<String> {
         (score.keys.is_empty(), "has no keys"),
     ];
     for (_, what) in rare.into_iter().filter(|(is, _)| *is) {
+        all.push(format!("style {style} {what}"));
+    }
+    for what in early::firsts(&take, &arrange(seed)).into_keys() {
         all.push(format!("style {style} {what}"));
     }
     all

@@ -12,11 +12,8 @@ run-in-requires-2 c κs = search needs
 run-in-requires-3 : tie.Need-run-in-requires-3
 run-in-requires-3 c κs = search needs
 
-run-in-requires-4 : tie.Need-run-in-requires-4
-run-in-requires-4 c κs = search needs
-
 returns : tie.Need-returns
-returns c = rw (c .run-in4 .ensures, c .before .run-in3 .ensures, c .before .before .run-in2 .ensures, c .before .before .before .run-in .ensures)
+returns c = rw (c .run-in3 .ensures, c .before .run-in2 .ensures, c .before .before .run-in .ensures)
 
 pub runs-in-spec : {M : Type 1} → statement M
 runs-in-spec =
@@ -25,5 +22,4 @@ runs-in-spec =
     run-in-requires
     run-in-requires-2
     run-in-requires-3
-    run-in-requires-4
     returns)
