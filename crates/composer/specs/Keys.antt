@@ -153,7 +153,8 @@ keysOf s h style beatS =
     let d = densityDrawOf (k .density) s in
     barsTo (emptyOf (d .stream)) (h .bars) k (d .value) beatS 8
 
--- ---- how many draws the stage makes for so many notes: the density's, one for each eighth, and for each stroke the lag and its own
+-- ---- how many draws the stage makes for so many notes: the density's, one for each eighth, and for each
+-- stroke the lag and its own
 abbrev pub keyDrawsOf : Style → ℕ → ℕ
 keyDrawsOf Style.Hiphop notes = 65 + 2 * notes
 keyDrawsOf Style.Sleep notes = 64 + 3 * notes

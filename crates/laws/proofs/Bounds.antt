@@ -1,5 +1,5 @@
--- Bounds on float expressions. Each operation goes one way in each operand, so the bounds of a result are the operation
--- at the operands' bounds, which computes. Assumes nothing.
+-- Bounds on float expressions. Each operation goes one way in each operand, so the bounds of a result are the
+-- operation at the operands' bounds, which computes. Assumes nothing.
 use mathlib.Core.Path.{_≡_, refl, sym, ap, _∙_, subst}
 use mathlib.Core.Logic.{_⊎_, inl, inr}
 use Prim.Native.Nat.{ℕ, zero, suc, _+_, _-_, _*_, _/_, _^_, _≤_, _<_, min}

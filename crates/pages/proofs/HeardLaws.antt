@@ -1,5 +1,5 @@
 -- Each hit of a song bar that plays drums stands on one page for that bar, the one before if it is early and else its
--- own. A page holds hits where its bar's drum bit is set, and only there. Assumes nothing.
+-- own. A page holds hits where its bar's drums bit is set, and only there. Assumes nothing.
 use mathlib.Core.Path.{_≡_, refl, sym, _∙_}
 use mathlib.Core.Bool.{Bool, true, false, not, cond}
 use mathlib.Core.List.{List, [], _++_, map}
@@ -119,7 +119,7 @@ module _ (s : Score) (f : Form) where
     once = λ q b h. stands-once q s f b (f .bars) h;
   }
 
--- ---- where the drum bit is set, and only there
+-- ---- where the drums bit is set, and only there
 module _ (seed : ℕ) (s : Score) (early : EarlyPromise s) (b : ℕ) where
   abbrev f : Form
   f = arrangeOf seed

@@ -1,5 +1,5 @@
--- A score's lanes in bytes: each event has its lane's width and stands at its place, its first byte is its bar, and the
--- events of one bar stand together. Assumes nothing.
+-- A score's lanes in bytes: each event has its lane's width and stands at its place, its first byte is its bar, and
+-- the events of one bar stand together. Assumes nothing.
 use mathlib.Core.Path.{_≡_, refl, sym, ap, _∙_}
 use mathlib.Core.Bool.{Bool, true, false}
 use mathlib.Core.List.{List, [], _++_, map}

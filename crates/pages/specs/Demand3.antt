@@ -68,7 +68,7 @@ pageAt style seed b = bytesOf (pageAsked (styleNumberOf style) seed b)
 abbrev pub sheetFor : Style → ℕ → List ℕ
 sheetFor style seed = bytesOf (sheetAsked (styleNumberOf style) seed)
 
--- the page of song bar b has hits by the bar's drum bit, whatever its 0x07 holds
+-- the page of song bar b has hits by the bar's drums bit, whatever its 0x07 holds
 abbrev pub hasHits : Style → ℕ → ℕ → Bool
 hasHits style seed b = drumBit (sheetFor style seed) b
 

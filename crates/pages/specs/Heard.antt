@@ -37,7 +37,7 @@ pub record HitsPlaced (s : Score) (f : Form) : Type 0 where
   -- a bar's hits that are not early stand on its own page, and the early ones on the page before, in the order drawn
   pub own : (b : ℕ) → 0 < b → standing s f b b ≡ filterOf (λ h. not (isEarly (beatSOf (s .bpm)) h)) (playedHits s f b)
   pub before : (b : ℕ) → standing s f b (b + 1) ≡ filterOf (isEarly (beatSOf (s .bpm))) (playedHits s f (b + 1))
-  -- but all of song bar 0 stay, and no page has any of a bar after the last
+  -- but all of song bar 0 stay, and no page has any of the bar after the last
   pub first : standing s f 0 0 ≡ playedHits s f 0
   pub last : (k : ℕ) → standing s f k (f .bars) ≡ []
   -- so a song bar's hits, whichever of them q counts, are on the song's pages as often as they were drawn: none is
@@ -50,5 +50,5 @@ pub record HeardPromise (style : Style) (seed : ℕ) : Type 0 where
   -- 0x07 is these hits, at most 14
   pub held : (b : ℕ) → b < arrangeOf seed .bars → bodyOf 0x07 (pageAt style seed b) ≡ joined (map hitBytes (pageHits (songOf style seed .score) (arrangeOf seed) b))
   pub few : (b : ℕ) → length (pageHits (songOf style seed .score) (arrangeOf seed) b) ≤ 14
-  -- it is longer than 0 where the bar's drum bit is set, and only there: both readings of demand 3 agree
+  -- it is longer than 0 where the bar's drums bit is set, and only there: both readings of demand 3 agree
   pub by-bit : (b : ℕ) → b < arrangeOf seed .bars → has 0x07 (pageAt style seed b) ≡ hasHits style seed b

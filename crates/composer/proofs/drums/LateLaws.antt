@@ -2,7 +2,7 @@
 -- the widest jitter, at each tempo and in each bar. Assumes nothing.
 use mathlib.Core.Path.{_≡_, refl}
 use mathlib.Core.Bool.{Bool, true, false, _&&_, cond}
-use Prim.Native.Nat.{ℕ, _+_, _-_, _*_, _%_, _≤_, zero-le}
+use Prim.Native.Nat.{ℕ, _+_, _-_, _%_, _≤_, zero-le}
 use native.Mathlib.Nat.{zero-mul, le-of-eq, le-trans}
 use native.Mathlib.Omega.{arith}
 use lib.Dec.{T, eqb, lit≤}
@@ -17,7 +17,7 @@ use Rattle.laws.proofs.Runs.{every, every-at}
 use Rattle.streams.specs.declared.stream.NoiseStream.{NoiseStream}
 use Rattle.composer.specs.Compose.{beatSOf}
 use Rattle.composer.specs.Drums.{barOf}
-use Rattle.composer.specs.Drums.Kit.{barAt, eighthOf, kickJitter, kickSlotOf, snareDragS, snareJitter, hatJitter, hatSlotOf}
+use Rattle.composer.specs.Drums.Kit.{barAt, kickJitter, kickSlotOf, snareDragS, snareJitter, hatJitter, hatSlotOf}
 use Rattle.composer.specs.Note.{zero32}
 use Rattle.composer.specs.Spread.{jitterOf}
 use Rattle.composer.specs.Timing.{barStartOf, heldAtZero}
@@ -73,30 +73,30 @@ lastStart = ofBits binary32 0x41c0_0000
 abbrev leastEighth : Float
 leastEighth = ofBits binary32 0x3ebb_512c
 
-abbrev leastKick : Float → Float
-leastKick start = add binary32 (add binary32 start (mul binary32 zero32 quickest)) leastDrag
+abbrev leastKickSlot : Float → Float
+leastKickSlot start = add binary32 (add binary32 start (mul binary32 zero32 quickest)) leastDrag
 
-abbrev leastSnare : Float → Float
-leastSnare start = add binary32 (add binary32 start (mul binary32 (f32Of 1) quickest)) snareDragS
+abbrev leastSnareSlot : Float → Float
+leastSnareSlot start = add binary32 (add binary32 start (mul binary32 (f32Of 1) quickest)) snareDragS
 
-abbrev leastHat : Float → Float
-leastHat start = add binary32 start (mul binary32 (f32Of 1) leastEighth)
+abbrev leastHatSlot : Float → Float
+leastHatSlot start = add binary32 start (mul binary32 (f32Of 1) leastEighth)
 
 -- kicks and hats off the beat are swung
 abbrev straightKick : Float → Bool
-straightKick start = clears start (leastKick start) (widthOf kickJitter)
+straightKick start = clears start (leastKickSlot start) (widthOf kickJitter)
 
 abbrev swungKick : Float → Bool
-swungKick start = clears start (add binary32 (leastKick start) zero32) (widthOf kickJitter)
+swungKick start = clears start (add binary32 (leastKickSlot start) zero32) (widthOf kickJitter)
 
 abbrev everySnare : Float → Bool
-everySnare start = clears start (leastSnare start) (widthOf snareJitter)
+everySnare start = clears start (leastSnareSlot start) (widthOf snareJitter)
 
 abbrev straightHat : Float → Bool
-straightHat start = clears start (leastHat start) (widthOf hatJitter)
+straightHat start = clears start (leastHatSlot start) (widthOf hatJitter)
 
 abbrev swungHat : Float → Bool
-swungHat start = clears start (add binary32 (leastHat start) zero32) (widthOf hatJitter)
+swungHat start = clears start (add binary32 (leastHatSlot start) zero32) (widthOf hatJitter)
 
 abbrev row : ℕ → ℕ → Bool
 row n number = let start = barStartOf number (beatSOf (f32Of n)) in (straightKick start && swungKick start) && (everySnare start && (straightHat start && swungHat start))

@@ -1,5 +1,5 @@
--- Every drum hit is plain: it falls within the loop, whichever way it is jittered, and its gain is neither too soft nor
--- too loud. Assumes nothing.
+-- Every drum hit is plain: it falls within the loop, whichever way it is jittered, and its gain is neither too soft
+-- nor too loud. Assumes nothing.
 use mathlib.Core.Path.{refl}
 use mathlib.Core.Bool.{_&&_}
 use Prim.Native.Nat.{ℕ, zero, suc, _%_, _≤_, _<_}

@@ -1,6 +1,6 @@
 -- Drums come back where a phrase begins, and so at loop bar 0: within a phrase what mutes them goes on to its end, and
 -- an intro or an outro has them throughout or not at all. Assumes nothing.
-use mathlib.Core.Path.{_≡_, refl, sym, _∙_}
+use mathlib.Core.Path.{_≡_, refl, _∙_}
 use mathlib.Core.Bool.{Bool, true, false, _&&_, _||_, cond}
 use Prim.Native.Nat.{ℕ, _+_, _-_, _*_, _/_, _%_, _≤_}
 use native.Mathlib.Omega.{arith}

@@ -1,4 +1,5 @@
--- A bar's bass notes: the root on its first step, then the root or its fifth, and a pickup into the next bar. Definitions only.
+-- A bar's bass notes: the root on its first step, then the root or its fifth, and a pickup into the next bar.
+-- Definitions only.
 use mathlib.Core.Bool.{Bool, false, cond, _&&_}
 use Prim.Native.Nat.{ℕ, zero, suc, _+_, _-_, _<_}
 use lib.Dec.{eqb, ltb, leb}
@@ -21,7 +22,8 @@ use Rattle.composer.specs.declared.bass.line.BarPart.{BarPart}
 use Rattle.composer.specs.declared.bass.line.Strike.{Strike}
 use Rattle.composer.specs.declared.bass.line.PlayedNote.{PlayedNote}
 
--- ---- the constants: lag 0.014 and 0.010, a later note 0.14 softer; pickup's lag 0.012 and 0.008, its velocity 0.34 and 0.06
+-- ---- the constants: lag 0.014 and 0.010, a later note 0.14 softer; pickup's lag 0.012 and 0.008, its velocity 0.34
+-- and 0.06
 abbrev pub bassLag : Spread
 bassLag = record { base = ofBits binary32 0x3c65_6042; span = ofBits binary32 0x3c23_d70a }
 

@@ -1,5 +1,5 @@
--- What every song's form promises: demand 3's statements of chords, drums and bass with a bar for a page, and the form's
--- own. Definitions only.
+-- What every song's form promises: demand 3's statements of chords, drums and bass with a bar for a page, and the
+-- form's own. Definitions only.
 use mathlib.Core.Path.{_≡_}
 use mathlib.Core.Bool.{Bool, true, false, _&&_}
 use mathlib.Core.Logic.{_⊎_}
