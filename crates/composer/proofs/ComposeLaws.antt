@@ -2,7 +2,7 @@
 use mathlib.Core.Path.{_≡_, refl, sym, ap, subst}
 use mathlib.Core.Bool.{Bool, true, false}
 use mathlib.Core.List.{List, [], _∷_, _++_, map}
-use Prim.Native.Nat.{ℕ, zero, suc, _-_, _≤_, _<_}
+use Prim.Native.Nat.{ℕ, zero, suc, _+_, _-_, _≤_, _<_}
 use native.Mathlib.Omega.{arith}
 use lib.Ieee.{Float}
 use lib.ListN.{length, getD, replicate}
@@ -19,8 +19,12 @@ use Rattle.composer.specs.Early.{EarlyPromise}
 use Rattle.composer.specs.Harmony.{pentatonic, colour, classIn, classesOf, melodyPcsOf, harmonyOf, Tonal}
 use Rattle.composer.specs.Keys.{keysOf}
 use Rattle.composer.specs.Lead.{leadOf}
+use Rattle.composer.specs.Lead.Beats.{pastBeats}
+use Rattle.composer.specs.Lead.Rule.{notesBefore, songBeats, LeadTold}
+use Rattle.composer.specs.Note.{pastNote}
 use Rattle.composer.specs.Promise.{LanesPromise, BarsPromise, EventsPromise, ScorePromise, DrawsPromise, SongPromise}
 use Rattle.composer.specs.Range.{Within, RangePromise}
+use Rattle.composer.specs.Roles.{RolesPromise}
 use Rattle.composer.specs.Refusal.{Refuses}
 use Rattle.composer.specs.Style.{leadStyleOf}
 use Rattle.composer.specs.Tempo.{beatsOf, tempoOf}
@@ -45,12 +49,14 @@ use Rattle.composer.proofs.PlainLaws.{plain-numbers}
 use Rattle.composer.proofs.RangeLaws.{tempo-between, beat-in}
 use Rattle.composer.proofs.TempoLaws.{tempo-within, tempo-counter}
 use Rattle.composer.proofs.VoiceLaws.{voice-counter}
+use Rattle.composer.proofs.bass.PlainLaws.{bass-back}
 use Rattle.composer.proofs.bass.PromiseLaws.{bass-laid, bass-occur, bass-few, bass-sounds, bass-within}
 use Rattle.composer.proofs.drums.EarlyLaws.{drums-early, drums-first, drums-late}
 use Rattle.composer.proofs.keys.DrawLaws.{keys-counter}
 use Rattle.composer.proofs.keys.NoteLaws.{keys-laid, keys-few}
-use Rattle.composer.proofs.keys.PlainLaws.{keys-within}
-use Rattle.composer.proofs.lead.LeadLaws.{lead-laid, lead-few, lead-fits}
+use Rattle.composer.proofs.keys.PlainLaws.{keys-within, keys-back}
+use Rattle.composer.proofs.lead.LeadLaws.{lead-laid, lead-few, lead-fits, lead-roles}
+use Rattle.composer.proofs.lead.RuleLaws.{lead-told}
 use Rattle.composer.proofs.lead.ScaleLaws.{has-occurs}
 
 pub unknown-style : (style seed : ℕ) → 2 ≤ style → composeOf style seed ≡ refusedOf Refusal.UnknownStyle
@@ -161,6 +167,17 @@ module _ (style : Style) (seed : ℕ) where
       let s = streamOf Stage.Drums seed in
       record { few = drums-early n tempo s style; first = drums-first n tempo s style; late = drums-late n tempo s style }
 
+  roles-promise : RolesPromise (composedOf style seed .score)
+  unfolding composedOf songBy tempoOf
+  roles-promise =
+      let n = beatsOf (streamOf Stage.Tempo seed) style in
+      let tempo = tempo-between (streamOf Stage.Tempo seed) style in
+      record {
+        lead = lead-roles (streamOf Stage.Lead seed) harmony tonal style beatS;
+        keys = keys-back (streamOf Stage.Keys seed) harmony tonal style beatS (beat-in n tempo);
+        bass = bass-back (streamOf Stage.Bass seed) harmony tonal style n tempo;
+      }
+
   score-promise : ScorePromise style (composedOf style seed .score) (composedOf style seed .scale)
   unfolding composedOf songBy tempoOf
   score-promise =
@@ -178,6 +195,7 @@ module _ (style : Style) (seed : ℕ) where
         plain = plain-numbers style seed;
         range = range-promise;
         early = early-promise;
+        roles = roles-promise;
         hit-in-each = drums-occur (streamOf Stage.Drums seed) style beatS;
         bass-in-each = bass-occur (streamOf Stage.Bass seed) harmony style beatS tonal;
         lead-sings = λ i h. let f = lead-fits (streamOf Stage.Lead seed) harmony tonal style beatS i h in record { least = f .0; most = f .1; class = has-occurs (harmony .scale .n) (harmony .scale .pcs) _ (f .2) };
@@ -188,6 +206,12 @@ module _ (style : Style) (seed : ℕ) where
         scale-classes = subst (λ (x : Scale). (k : ℕ) → getD (x .pcs) k 0 < 12) (sym (tonal .scale)) (pcs-classes (tonal .key) (tonal .major));
         scale-rest = subst (λ (x : Scale). (k : ℕ) → x .n ≤ k → getD (x .pcs) k 0 ≡ 0) (sym (tonal .scale)) (pcs-rest (tonal .key) (tonal .major));
       }
+
+  -- each note of the rhythm stands in the lead, with its role by the rule of the melody
+  pub song-told : (k i : ℕ) → k < 8 → i < getD (songBeats (streamOf Stage.Lead seed) style) k pastBeats .n
+      → LeadTold (streamOf Stage.Lead seed) harmony style k i (getD (composedOf style seed .score .lead) (notesBefore (songBeats (streamOf Stage.Lead seed) style) k + i) pastNote)
+  unfolding composedOf songBy
+  song-told = lead-told (streamOf Stage.Lead seed) harmony tonal style beatS
 
   draws-promise : DrawsPromise style (composedOf style seed .score) (composedOf style seed .counters)
   unfolding composedOf songBy

@@ -10,6 +10,7 @@ pub mod PlainLaws
 pub mod PlayedLaws
 pub mod QuarterLaws
 pub mod RhythmLaws
+pub mod RuleLaws
 pub mod ScaleLaws
 pub mod SettleLaws
 pub mod StatementLaws

@@ -16,6 +16,7 @@ use Rattle.composer.specs.Timing.{barStartOf, swingDelayOf}
 use Rattle.composer.specs.declared.chord.Chord.{Chord}
 use Rattle.composer.specs.declared.harmony.Harmony.{Harmony}
 use Rattle.composer.specs.declared.note.Note.{Note}
+use Rattle.composer.specs.declared.note.NoteRole.{NoteRole}
 use Rattle.composer.specs.declared.spread.Drawn.{Drawn}
 use Rattle.composer.specs.declared.spread.Spread.{Spread}
 use Rattle.composer.specs.declared.style.Comp.{Comp}
@@ -98,15 +99,15 @@ dyadOf s shell root k bar at =
     let high = upperOf (ninth .value) (shell .seventh) root in
     let vel = drawOf (k .velocity) (ninth .stream) in
     let rolled = afterOf roll at (vel .stream) in
-    let lower : Note = record { bar = bar; spare = 0; at = at; midi = shell .third; vel = vel .value; dur = k .dur } in
-    let higher : Note = record { bar = bar; spare = 0; at = rolled .value; midi = high; vel = mul binary32 (vel .value) rolledSofter; dur = k .dur } in
+    let lower : Note = record { bar = bar; role = NoteRole.Backing; spare = 0; at = at; midi = shell .third; vel = vel .value; dur = k .dur } in
+    let higher : Note = record { bar = bar; role = NoteRole.Backing; spare = 0; at = rolled .value; midi = high; vel = mul binary32 (vel .value) rolledSofter; dur = k .dur } in
     record { lower = lower; higher = higher; stream = rolled .stream }
 
 abbrev pub toneOf : NoiseStream → Chord → KeysStyle → ℕ → Float → Tone
 toneOf s c k bar at =
     let p = pickOf s 4 in
     let vel = drawOf (k .velocity) (p .stream) in
-    record { note = record { bar = bar; spare = 0; at = at; midi = getD (c .notes) (p .value) 0; vel = vel .value; dur = k .dur }; stream = vel .stream }
+    record { note = record { bar = bar; role = NoteRole.Backing; spare = 0; at = at; midi = getD (c .notes) (p .value) 0; vel = vel .value; dur = k .dur }; stream = vel .stream }
 
 -- ---- a stroke on the lane
 unfoldable pub shellStrokeOf : KeysLane → Chord → KeysStyle → ℕ → Float → KeysLane

@@ -21,6 +21,7 @@ pub mod Played
 pub mod Push
 pub mod Rhythm
 pub mod Role
+pub mod Rule
 pub mod Scale
 pub mod Settled
 pub mod Sound

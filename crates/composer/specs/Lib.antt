@@ -15,6 +15,7 @@ pub mod Plain
 pub mod Promise
 pub mod Range
 pub mod Refusal
+pub mod Roles
 pub mod Spread
 pub mod Style
 pub mod Tempo

@@ -2,8 +2,19 @@
 use Prim.Native.Nat.{ℕ}
 use lib.Ieee.{Float, nan, binary32, ofBits}
 use Rattle.composer.specs.declared.note.Note.{Note}
+use Rattle.composer.specs.declared.note.NoteRole.{NoteRole}
 use Rattle.composer.specs.declared.note.Hit.{Hit}
 use Rattle.composer.specs.declared.note.DrumKind.{DrumKind}
+
+-- document 02's number of each role
+abbrev pub roleNumberOf : NoteRole → ℕ
+roleNumberOf NoteRole.Quote = 0
+roleNumberOf NoteRole.Close = 1
+roleNumberOf NoteRole.Peak = 2
+roleNumberOf NoteRole.Resolve = 3
+roleNumberOf NoteRole.ChordTone = 4
+roleNumberOf NoteRole.Passing = 5
+roleNumberOf NoteRole.Backing = 6
 
 -- document 01's number of each drum
 abbrev pub kindNumberOf : DrumKind → ℕ
@@ -16,10 +27,10 @@ abbrev pub zero32 : Float
 zero32 = ofBits binary32 0
 
 abbrev pub noNote : Note
-noNote = record { bar = 0; spare = 0; at = zero32; midi = 0; vel = zero32; dur = zero32 }
+noNote = record { bar = 0; role = NoteRole.Quote; spare = 0; at = zero32; midi = 0; vel = zero32; dur = zero32 }
 
 abbrev pub pastNote : Note
-pastNote = record { bar = 0; spare = 0; at = nan; midi = 0; vel = nan; dur = nan }
+pastNote = record { bar = 0; role = NoteRole.Quote; spare = 0; at = nan; midi = 0; vel = nan; dur = nan }
 
 abbrev pub noHit : Hit
 noHit = record { bar = 0; spare = 0; at = zero32; kind = DrumKind.Kick; gain = zero32 }

@@ -14,6 +14,7 @@ use Rattle.composer.specs.Note.{noNote, pastNote, noteBar, noHit, pastHi
 use Rattle.composer.specs.Plain.{PlainPromise}
 use Rattle.composer.specs.Range.{RangePromise}
 use Rattle.composer.specs.Refusal.{Gives}
+use Rattle.composer.specs.Roles.{RolesPromise}
 use Rattle.composer.specs.Style.{leadStyleOf}
 use Rattle.composer.specs.Tempo.{slowestOf, fastestOf}
 use Rattle.composer.specs.declared.compose.Composed.{Composed}
@@ -65,6 +66,8 @@ pub record ScorePromise (style : Style) (score : Score) (scale : Scale) : Type 0
   pub range : RangePromise score
   -- how few hits are early
   pub early : EarlyPromise score
+  -- why each note is what it is
+  pub roles : RolesPromise score
   -- every loop bar has a hit and a bass note
   pub hit-in-each : (b : ℕ) → b < 8 → Occurs (λ i. hitBar (getD (score .hits) i pastHit)) (score .«hit_count») b
   pub bass-in-each : (b : ℕ) → b < 8 → Occurs (λ i. noteBar (getD (score .bass) i pastNote)) (score .«bass_count») b

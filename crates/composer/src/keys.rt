@@ -10,6 +10,7 @@ use crate::chord::in_octave_from;
 use crate::harmony::Harmony;
 use crate::note::NO_NOTE;
 use crate::note::Note;
+use crate::note::NoteRole;
 use crate::spread::Drawn;
 use crate::spread::Spread;
 use crate::style::Comp;
@@ -134,6 +135,7 @@ fn dyad_at(s: NoiseStream, shell: Shell, chord: Chord, k: KeysStyle, bar: u8, at
     let rolled = ROLL.after(at, vel.stream);
     let lower = Note {
         bar: bar,
+        role: NoteRole::Backing,
         spare: 0,
         at: at,
         midi: shell.third,
@@ -142,6 +144,7 @@ fn dyad_at(s: NoiseStream, shell: Shell, chord: Chord, k: KeysStyle, bar: u8, at
     };
     let higher = Note {
         bar: bar,
+        role: NoteRole::Backing,
         spare: 0,
         at: rolled.value,
         midi: high,
@@ -166,6 +169,7 @@ fn tone_at(s: NoiseStream, chord: Chord, k: KeysStyle, bar: u8, at: f32) -> Tone
     let vel = k.velocity.draw(p.stream);
     let note = Note {
         bar: bar,
+        role: NoteRole::Backing,
         spare: 0,
         at: at,
         midi: midi,

@@ -19,6 +19,7 @@ use Rattle.composer.specs.Bass.Line.{struckOf, rootNoteOf, pickupNoteOf,
 use Rattle.composer.specs.Bass.Promise.{Sounds, is-root, is-fifth, is-under}
 use Rattle.composer.specs.declared.chord.Chord.{Chord}
 use Rattle.composer.specs.declared.note.Note.{Note}
+use Rattle.composer.specs.declared.note.NoteRole.{NoteRole}
 use Rattle.composer.specs.declared.style.BassStyle.{BassStyle}
 use Rattle.composer.specs.declared.bass.BassLane.{BassLane}
 use Rattle.composer.specs.declared.bass.line.BarPart.{BarPart}
@@ -70,7 +71,7 @@ module _ (chord next : Chord) (p : BarPart) (over : Over chord next p) (style : 
   play-grown l beatS i room =
       let on = onsetOf beatS (p .bar) (getD (p .steps .at) i 0) in
       let d = noteDrawnOf (l .stream) on p style i in
-      grown-push pastNote (NoteOf chord next p) (l .notes) (l .count) (record { bar = p .bar; spare = 0; at = d .at; midi = d .midi; vel = d .vel; dur = heldOf beatS (gapOf p i) (d .at) }) room
+      grown-push pastNote (NoteOf chord next p) (l .notes) (l .count) (record { bar = p .bar; role = NoteRole.Backing; spare = 0; at = d .at; midi = d .midi; vel = d .vel; dur = heldOf beatS (gapOf p i) (d .at) }) room
       (let n = note-sounds (l .stream) on i in (refl, n .0, n .1))
 
 module _ (l : BassLane) (p : BarPart) (style : BassStyle) (beatS : Float) where

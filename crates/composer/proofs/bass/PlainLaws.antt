@@ -1,4 +1,5 @@
--- Every bass note is plain: it starts within the loop, is loud enough, and is held for a while but not past the loop's end. Assumes nothing.
+-- Every bass note is plain: it starts within the loop, is loud enough, and is held for a while but not past the loop's
+-- end; and it is no lead's. Assumes nothing.
 use mathlib.Core.Path.{_≡_, refl, subst}
 use mathlib.Core.Bool.{Bool, true, false, cond, _&&_}
 use mathlib.Core.List.{List, [], _∷_}
@@ -27,10 +28,13 @@ use Rattle.composer.specs.Compose.{beatSOf}
 use Rattle.composer.specs.Harmony.{Tonal}
 use Rattle.composer.specs.Note.{zero32, pastNote}
 use Rattle.composer.specs.Plain.{latest, softest, loudest, shortest, longest, Fits32, PlainNote}
+use Rattle.composer.specs.Roles.{Backs}
 use Rattle.composer.specs.Spread.{afterOf}
 use Rattle.composer.specs.Style.{bassStyleOf}
 use Rattle.composer.specs.Timing.{sixteenthBeats, barSOf}
 use Rattle.composer.specs.declared.harmony.Harmony.{Harmony}
+use Rattle.composer.specs.declared.note.Note.{Note}
+use Rattle.composer.specs.declared.note.NoteRole.{NoteRole}
 use Rattle.composer.specs.declared.spread.Spread.{Spread}
 use Rattle.composer.specs.declared.style.Style.{Style}
 use Rattle.composer.specs.declared.style.Style.the-variants.{Hiphop, Sleep}
@@ -45,6 +49,9 @@ use Rattle.composer.proofs.RangeLaws.{between-in, stays, draw-in, after
 use Rattle.composer.proofs.bass.BassLaws.{part-playable}
 use Rattle.composer.proofs.bass.PromiseLaws.{bass-laid}
 use Rattle.composer.proofs.bass.RhythmLaws.{root-le, rhythms-rising}
+
+abbrev BassNote : Note → Type 0
+BassNote x = PlainNote x × Backs x
 
 -- ---- a bar's first step is in its first beat
 abbrev Early : Steps → Type 0
@@ -243,6 +250,7 @@ module _ (n : ℕ) (tempo : (70 ≤ n) × (n ≤ 82)) where
       note-plain : (s : NoiseStream) (i : ℕ) → i < p .steps .n → (midi : ℕ)
           → PlainNote (record {
             bar = p .bar;
+            role = NoteRole.Backing;
             spare = 0;
             at = noteDrawnOf s (onsetOf beatS (p .bar) (getD (p .steps .at) i 0)) p style i .at;
             midi = midi;
@@ -262,13 +270,13 @@ module _ (n : ℕ) (tempo : (70 ≤ n) × (n ≤ 82)) where
             spare = refl;
           }
 
-      bar-plain : (l : BassLane) (i : ℕ) → i ≤ p .steps .n → Filled pastNote PlainNote (l .notes) (l .count)
-          → Filled pastNote PlainNote (barPlayed l p style beatS i .notes) (barPlayed l p style beatS i .count)
+      bar-plain : (l : BassLane) (i : ℕ) → i ≤ p .steps .n → Filled pastNote BassNote (l .notes) (l .count)
+          → Filled pastNote BassNote (barPlayed l p style beatS i .notes) (barPlayed l p style beatS i .count)
       unfolding barPlayed playOf playedNoteOf
       bar-plain l zero h f = f
       bar-plain l (suc i) h f =
           let before = barPlayed l p style beatS i in
-          filled-push pastNote PlainNote (before .notes) (before .count) _ (bar-plain l i (omega arith) f) (note-plain (before .stream) i (omega arith) _)
+          filled-push pastNote BassNote (before .notes) (before .count) _ (bar-plain l i (omega arith) f) (note-plain (before .stream) i (omega arith) _, refl)
 
   module _ (h : Harmony) (tonal : Tonal h) (rs : List Steps) (rising : (b : ℕ) → b < 8 → Rising (getD rs b pastSteps) 16) (opens : (b : ℕ) → Early (getD rs b pastSteps))
       (style : BassStyle) (loud : T (stays (style .velocity) softest loudest)) (later : T (stays (laterVelocity (style .velocity)) softest loudest)) (s : NoiseStream) where
@@ -283,9 +291,9 @@ module _ (n : ℕ) (tempo : (70 ≤ n) × (n ≤ 82)) where
     unfolding partOf
     in-loop b k = omega arith
 
-    bars-plain : (b : ℕ) → b ≤ 8 → Filled pastNote PlainNote (laneTo b .notes) (laneTo b .count)
+    bars-plain : (b : ℕ) → b ≤ 8 → Filled pastNote BassNote (laneTo b .notes) (laneTo b .count)
     unfolding barsPlayed
-    bars-plain zero k = filled-none pastNote PlainNote (noBass s .notes)
+    bars-plain zero k = filled-none pastNote BassNote (noBass s .notes)
     bars-plain (suc b) k =
         let p = partOf (h .bars) rs b in
         let here-b : b < 8 = omega arith in
@@ -305,9 +313,15 @@ module _ (s : NoiseStream) (h : Harmony) (tonal : Tonal h) (style : Style) (n : 
   abbrev drawn : BassLane
   drawn = bassOf s h style (beatSOf (f32Of n))
 
-  filled : Filled pastNote PlainNote (drawn .notes) (drawn .count)
+  filled : Filled pastNote BassNote (drawn .notes) (drawn .count)
   unfolding bassOf
   filled = bars-plain n tempo h tonal (bassRhythmsOf s .bars) (rhythms-rising s) (rhythms-early s) (bassStyleOf style) (loud-of style) (later-of style) (bassRhythmsOf s .stream) 8 (omega arith)
 
+  bass-sound : (i : ℕ) → i < drawn .count → BassNote (getD (drawn .notes) i pastNote)
+  bass-sound i k = let laid = bass-laid s h style (beatSOf (f32Of n)) tonal in filled i k (omega (arith, laid .size, laid .few))
+
   pub bass-plain : (i : ℕ) → i < drawn .count → PlainNote (getD (drawn .notes) i pastNote)
-  bass-plain i k = let laid = bass-laid s h style (beatSOf (f32Of n)) tonal in filled i k (omega (arith, laid .size, laid .few))
+  bass-plain i k = bass-sound i k .0
+
+  pub bass-back : (i : ℕ) → i < drawn .count → Backs (getD (drawn .notes) i pastNote)
+  bass-back i k = bass-sound i k .1

@@ -1,5 +1,5 @@
 -- Every note of the keys is plain, on its eighth, behind it by the lag and the roll, and as loud and as long as the
--- style has it; and it is from 48 to 73. Assumes nothing.
+-- style has it; and it is from 48 to 73 and no lead's. Assumes nothing.
 use mathlib.Core.Path.{refl}
 use mathlib.Core.Bool.{Bool, _&&_}
 use mathlib.Core.List.{List}
@@ -24,11 +24,13 @@ use Rattle.composer.specs.Harmony.{Tonal}
 use Rattle.composer.specs.Note.{zero32, pastNote}
 use Rattle.composer.specs.Plain.{latest, softest, loudest, shortest, longest, Fits32, PlainNote}
 use Rattle.composer.specs.Range.{Within}
+use Rattle.composer.specs.Roles.{Backs}
 use Rattle.composer.specs.Spread.{drawOf, afterOf}
 use Rattle.composer.specs.Style.{keysStyleOf}
 use Rattle.composer.specs.declared.chord.Chord.{Chord}
 use Rattle.composer.specs.declared.harmony.Harmony.{Harmony}
 use Rattle.composer.specs.declared.note.Note.{Note}
+use Rattle.composer.specs.declared.note.NoteRole.{NoteRole}
 use Rattle.composer.specs.declared.style.Comp.{Comp}
 use Rattle.composer.specs.declared.style.KeysStyle.{KeysStyle}
 use Rattle.composer.specs.declared.style.Style.{Style}
@@ -40,7 +42,7 @@ use Rattle.composer.proofs.keys.ShellLaws.{Played, tonal-played}
 use Rattle.composer.proofs.keys.StrokeLaws.{lagged, struckAt}
 
 abbrev KeysNote : Note → Type 0
-KeysNote x = PlainNote x × Within 48 73 (x .midi)
+KeysNote x = PlainNote x × Within 48 73 (x .midi) × Backs x
 
 abbrev Full : KeysLane → Type 0
 Full l = Filled pastNote KeysNote (l .notes) (l .count)
@@ -101,8 +103,8 @@ module _ (k : KeysStyle) (isFair : T (fair k)) (durFits : Fits32 (k .dur)) where
         let ninth = chanceOf (l .stream) ninthP in
         let vel = drawOf (k .velocity) (ninth .stream) in
         let rolled = afterOf roll at (vel .stream) in
-        let lower : Note = record { bar = bar; spare = 0; at = at; midi = shellOf c .third; vel = vel .value; dur = k .dur } in
-        let higher : Note = record { bar = bar; spare = 0; at = rolled .value; midi = upperOf (ninth .value) (shellOf c .seventh) (rootClassOf c); vel = mul binary32 (vel .value) rolledSofter; dur = k .dur } in
+        let lower : Note = record { bar = bar; role = NoteRole.Backing; spare = 0; at = at; midi = shellOf c .third; vel = vel .value; dur = k .dur } in
+        let higher : Note = record { bar = bar; role = NoteRole.Backing; spare = 0; at = rolled .value; midi = upperOf (ninth .value) (shellOf c .seventh) (rootClassOf c); vel = mul binary32 (vel .value) rolledSofter; dur = k .dur } in
         let low : PlainNote lower = record {
           at = time-in at i;
           vel = loud-in (vel .value) (velocity-in (ninth .stream));
@@ -123,14 +125,14 @@ module _ (k : KeysStyle) (isFair : T (fair k)) (durFits : Fits32 (k .dur)) where
           spare = refl;
         }
         in
-        push-full (pushOf l lower) higher (high, played .upper (ninth .value)) (push-full l lower (low, played .third) f)
+        push-full (pushOf l lower) higher (high, played .upper (ninth .value), refl) (push-full l lower (low, played .third, refl) f)
 
     single-full : Full (singleStrokeOf l c k bar at)
     unfolding singleStrokeOf
     single-full =
         let p = pickOf (l .stream) 4 in
         let vel = drawOf (k .velocity) (p .stream) in
-        let note : Note = record { bar = bar; spare = 0; at = at; midi = getD (c .notes) (p .value) 0; vel = vel .value; dur = k .dur } in
+        let note : Note = record { bar = bar; role = NoteRole.Backing; spare = 0; at = at; midi = getD (c .notes) (p .value) 0; vel = vel .value; dur = k .dur } in
         let plain : PlainNote note = record {
           at = time-in at i;
           vel = loud-in (vel .value) (velocity-in (p .stream));
@@ -141,7 +143,7 @@ module _ (k : KeysStyle) (isFair : T (fair k)) (durFits : Fits32 (k .dur)) where
           spare = refl;
         }
         in
-        push-full l note (plain, played .tone (p .value) (pick-lt (l .stream) 4 (omega arith))) f
+        push-full l note (plain, played .tone (p .value) (pick-lt (l .stream) 4 (omega arith)), refl) f
 
     stroke-by-full : (comp : Comp) → Full (strokeBy comp l c k bar at)
     stroke-by-full Comp.Shell = shell-full
@@ -205,3 +207,6 @@ module _ (s : NoiseStream) (h : Harmony) (tonal : Tonal h) (style : Style) (beat
 
   pub keys-within : (i : ℕ) → i < keysOf s h style beatS .count → Within 48 73 (getD (keysOf s h style beatS .notes) i pastNote .midi)
   keys-within i k = note-at i k .1
+
+  pub keys-back : (i : ℕ) → i < keysOf s h style beatS .count → Backs (getD (keysOf s h style beatS .notes) i pastNote)
+  keys-back i k = note-at i k .2

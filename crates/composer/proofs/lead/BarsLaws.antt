@@ -25,11 +25,11 @@ abbrev pub leadBar : LeadNote → ℕ
 leadBar x = x .bar
 
 module _ (pool : List Bool) (g : Ground) (bar : ℕ) (b : Beats) where
-  sing-grown : (m : Sung) (i : ℕ) → m .count < length (m .notes) → Grown pastLead (λ x. x .bar ≡ bar) (m .notes) (singOf pool g bar b m i .notes) (m .count) (singOf pool g bar b m i .count)
+  pub sing-grown : (m : Sung) (i : ℕ) → m .count < length (m .notes) → Grown pastLead (λ x. x .bar ≡ bar) (m .notes) (singOf pool g bar b m i .notes) (m .count) (singOf pool g bar b m i .count)
   unfolding singOf
   sing-grown m i room = grown-push pastLead (λ x. x .bar ≡ bar) (m .notes) (m .count) _ room refl
 
-  bar-grown : (m : Sung) (i : ℕ) → m .count + i ≤ length (m .notes) → Grown pastLead (λ x. x .bar ≡ bar) (m .notes) (barTo pool g bar b m i .notes) (m .count) (barTo pool g bar b m i .count)
+  pub bar-grown : (m : Sung) (i : ℕ) → m .count + i ≤ length (m .notes) → Grown pastLead (λ x. x .bar ≡ bar) (m .notes) (barTo pool g bar b m i .notes) (m .count) (barTo pool g bar b m i .count)
   unfolding barTo
   bar-grown m zero room = grown-none pastLead (λ x. x .bar ≡ bar) (m .notes) (m .count)
   bar-grown m (suc i) room =
@@ -46,7 +46,7 @@ module _ (s : NoiseStream) (beats : List Beats) (bars : List Chord) (pool : List
   abbrev laneTo : ℕ → Sung
   laneTo k = barsTo beats bars pool style (nothingSung first s) k
 
-  good-to : (k : ℕ) → k ≤ 8 → Good pool (style .lo) (style .hi) (laneTo k) × (laneTo k .count ≤ 7 * k)
+  pub good-to : (k : ℕ) → k ≤ 8 → Good pool (style .lo) (style .hi) (laneTo k) × (laneTo k .count ≤ 7 * k)
   good-to k h =
       let g = good-start beats bars pool style ready s (nothingSung first s) first refl refl in
       good-bars beats bars pool style ready (nothingSung first s) k h (g .0) (g .1)

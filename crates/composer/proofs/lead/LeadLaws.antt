@@ -11,17 +11,21 @@ use Rattle.laws.specs.Sorts.{count}
 use Rattle.laws.proofs.Counts.{count-same}
 use Rattle.streams.specs.declared.stream.NoiseStream.{NoiseStream}
 use Rattle.composer.specs.Harmony.{Tonal}
-use Rattle.composer.specs.Note.{noNote, pastNote, noteBar}
+use Rattle.composer.specs.Note.{roleNumberOf, noNote, pastNote, noteBar}
+use Rattle.composer.specs.Roles.{Leads}
 use Rattle.composer.specs.Style.{leadStyleOf}
 use Rattle.composer.specs.Lead.{sungOf, leadOf}
 use Rattle.composer.specs.Lead.Rhythm.{rhythmOf}
 use Rattle.composer.specs.Lead.Scale.{pcsOf, hasOf, poolOf}
 use Rattle.composer.specs.Lead.Melody.{noLead, pastLead}
+use Rattle.composer.specs.Lead.Role.{notedOf}
 use Rattle.composer.specs.Lead.Sound.{Good, Ready}
 use Rattle.composer.specs.declared.harmony.Harmony.{Harmony}
 use Rattle.composer.specs.declared.style.Style.{Style}
 use Rattle.composer.specs.declared.style.LeadStyle.{LeadStyle}
 use Rattle.composer.specs.declared.lead.melody.Sung.{Sung}
+use Rattle.composer.specs.declared.lead.role.Role.{Role}
+use Rattle.composer.specs.declared.lead.role.Role.the-variants.{Quote, Close, Peak, Resolve, ChordTone, Passing}
 use Rattle.composer.proofs.lead.BarsLaws.{leadBar, melody-laid, melody-few}
 use Rattle.composer.proofs.lead.FitLaws.{fits-what}
 use Rattle.composer.proofs.lead.GroundLaws.{ready}
@@ -30,11 +34,19 @@ use Rattle.composer.proofs.lead.PlayedLaws.{played-count, played-size, 
 use Rattle.composer.proofs.lead.RhythmLaws.{rhythm-few}
 use Rattle.composer.proofs.lead.ScaleLaws.{pool-at}
 
+noted-six : (role : Role) → roleNumberOf (notedOf role) < 6
+noted-six Quote = omega arith
+noted-six Close = omega arith
+noted-six Peak = omega arith
+noted-six Resolve = omega arith
+noted-six ChordTone = omega arith
+noted-six Passing = omega arith
+
 module _ (s : NoiseStream) (h : Harmony) (tonal : Tonal h) (style : Style) where
   abbrev l : LeadStyle
   l = leadStyleOf style
 
-  song-ready : Ready (rhythmOf s l .bars) (h .bars) (poolOf (h .scale)) l
+  pub song-ready : Ready (rhythmOf s l .bars) (h .bars) (poolOf (h .scale)) l
   song-ready = ready h tonal style (rhythmOf s l .bars) (rhythm-few s l)
 
   pub sung-good : Good (poolOf (h .scale)) (l .lo) (l .hi) (sungOf s h style) × (sungOf s h style .count ≤ 56)
@@ -57,8 +69,9 @@ module _ (s : NoiseStream) (h : Harmony) (tonal : Tonal h) (style : Style) where
     unfolding leadOf
     same-count = played-count m beatS (l .dur)
 
-    keeps : (i : ℕ) → i < leadOf s h style beatS .count
+    pub keeps : (i : ℕ) → i < leadOf s h style beatS .count
         → (getD (leadOf s h style beatS .notes) i pastNote .bar ≡ leadBar (getD (m .notes) i pastLead)) × (getD (leadOf s h style beatS .notes) i pastNote .midi ≡ getD (m .notes) i pastLead .note)
+        × (getD (leadOf s h style beatS .notes) i pastNote .role ≡ notedOf (getD (m .notes) i pastLead .role))
     unfolding leadOf
     keeps i a = played-keeps m beatS (l .dur) (sung-good .1) i (omega (arith, same-count))
 
@@ -70,6 +83,10 @@ module _ (s : NoiseStream) (h : Harmony) (tonal : Tonal h) (style : Style) where
         let note = getD (m .notes) i pastLead .note in
         let f = fits-what (poolOf (h .scale)) (l .lo) (l .hi) note (sung-good .0 .notes i (omega (arith, same-count))) in
         rw (keeps i a .1) (f .0, f .1, sym (pool-at (pcsOf (h .scale)) (note % 12) (omega arith)) ∙ f .2)
+
+    -- each note has one of the six roles
+    pub lead-roles : (i : ℕ) → i < leadOf s h style beatS .count → Leads (getD (leadOf s h style beatS .notes) i pastNote)
+    lead-roles i a = rw (keeps i a .2) (noted-six (getD (m .notes) i pastLead .role))
 
     -- at most 56 notes, bar after bar, and zero behind them
     pub lead-laid : Laid pastNote noNote noteBar 56 7 (leadOf s h style beatS .notes) (leadOf s h style beatS .count)

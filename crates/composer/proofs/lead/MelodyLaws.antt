@@ -65,7 +65,7 @@ module _ (pool : List Bool) (g : Ground) (bar : ℕ) (b : Beats) where
   -- one note more, over the code's own equations
   pub bar-more : (m : Sung) (i : ℕ) (notes : List LeadNote) (count : ℕ) (line : Line) (p : Place) (first : ℕ) (t : LeadStep) → record { notes = notes; count = count; line = line } ≡ barTo pool g bar b m i
       → p ≡ placeOf bar b i → first ≡ openingOf count (line .prev) (getD notes 0 pastLead .note) → t ≡ stepOf pool g line p first
-      → record { notes = set notes count (record { bar = bar; beat = getD (b .at) i nan; note = t .note; vel = t .vel }); count = count + 1; line = t .line } ≡ barTo pool g bar b m (i + 1)
+      → record { notes = set notes count (record { bar = bar; beat = getD (b .at) i nan; note = t .note; role = t .role; vel = t .vel }); count = count + 1; line = t .line } ≡ barTo pool g bar b m (i + 1)
   unfolding barTo singOf
   bar-more m i notes count line p first t e f h u =
       let n : i + 1 ≡ suc i = add-one i in
@@ -77,7 +77,7 @@ module _ (pool : List Bool) (g : Ground) (bar : ℕ) (b : Beats) where
     good-sing m i h room =
         let t = stepOf pool g (m .line) (placeOf bar b i) (firstSungOf m) in
         let fits = step-note-fits pool g sound (m .line) (placeOf bar b i) (firstSungOf m) (h .line) in
-        good-put pool (g .lo) (g .hi) (m .notes) (m .count) (record { bar = bar; beat = getD (b .at) i nan; note = t .note; vel = t .vel }) (t .line) (h .size) room (h .notes) fits
+        good-put pool (g .lo) (g .hi) (m .notes) (m .count) (record { bar = bar; beat = getD (b .at) i nan; note = t .note; role = t .role; vel = t .vel }) (t .line) (h .size) room (h .notes) fits
         (line-fits pool (g .lo) (g .hi) (m .line) (firstSungOf m) (t .note) (h .line) fits bar _)
 
     pub good-bar : (m : Sung) (i : ℕ) → Good pool (g .lo) (g .hi) m → m .count + i ≤ 56 → Good pool (g .lo) (g .hi) (barTo pool g bar b m i)

@@ -1,4 +1,4 @@
--- The lane keeps the melody's bars and pitches, note for note, and nothing else is played. Assumes nothing.
+-- The lane keeps the melody's bars, pitches and roles, note for note, and nothing else is played. Assumes nothing.
 use mathlib.Core.Path.{_≡_, refl, sym, ap, _∙_}
 use mathlib.Core.Logic.{⊎-elim}
 use mathlib.Core.List.{List}
@@ -12,6 +12,7 @@ use lib.Ieee.{Float}
 use Rattle.streams.specs.declared.stream.NoiseStream.{NoiseStream}
 use Rattle.composer.specs.Note.{noNote, pastNote}
 use Rattle.composer.specs.Lead.Melody.{pastLead}
+use Rattle.composer.specs.Lead.Role.{notedOf}
 use Rattle.composer.specs.Lead.Played.{playedNoteOf, playOf, playTo, silenceOf, playedOf}
 use Rattle.composer.specs.declared.note.Note.{Note}
 use Rattle.composer.specs.declared.lead.LeadLane.{LeadLane}
@@ -23,9 +24,9 @@ use Rattle.composer.specs.declared.lead.played.PlayedNote.{PlayedNote}
 abbrev pub laneWith : List Note → NoiseStream → ℕ → LeadLane
 laneWith notes stream count = record { notes = notes; count = count; stream = stream }
 
--- a note as played: its bar and its pitch are kept
+-- a note as played: its bar, its pitch and its role are kept
 abbrev pub Keeps : Note → LeadNote → Type 0
-Keeps x y = (x .bar ≡ y .bar) × (x .midi ≡ y .note)
+Keeps x y = (x .bar ≡ y .bar) × (x .midi ≡ y .note) × (x .role ≡ notedOf (y .role))
 
 module _ (m : Sung) (beatS dur : Float) (s : NoiseStream) where
   abbrev lane : ℕ → LeadLane
@@ -54,7 +55,7 @@ module _ (m : Sung) (beatS dur : Float) (s : NoiseStream) where
   lane-keeps zero h i b = absurd (not-suc-le-zero b)
   lane-keeps (suc k) h i b =
       ⊎-elim
-      (λ (e : i ≡ k). let f : i ≡ lane k .count = e ∙ sym (lane-count k) in rw (f, getD-set-same (lane k .notes) (lane k .count) _ pastNote (omega (arith, lane-size k, lane-count k)), lane-count k) (refl, refl))
+      (λ (e : i ≡ k). let f : i ≡ lane k .count = e ∙ sym (lane-count k) in rw (f, getD-set-same (lane k .notes) (lane k .count) _ pastNote (omega (arith, lane-size k, lane-count k)), lane-count k) (refl, refl, refl))
       (λ (e : i < k). rw (getD-set-other (lane k .notes) (lane k .count) i _ pastNote (λ f. omega (arith, lane-count k))) (lane-keeps k (omega arith) i e))
       (eq-or-lt-of-le (le-of-suc-le-suc b))
 

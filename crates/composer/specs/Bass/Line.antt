@@ -14,6 +14,7 @@ use Rattle.composer.specs.Spread.{drawOf, afterOf}
 use Rattle.composer.specs.Timing.{sixteenthBeats, barSOf, barStartOf}
 use Rattle.composer.specs.Style.{oddsOf}
 use Rattle.composer.specs.Bass.Rhythm.{Rising}
+use Rattle.composer.specs.declared.note.NoteRole.{NoteRole}
 use Rattle.composer.specs.declared.spread.Spread.{Spread}
 use Rattle.composer.specs.declared.style.BassStyle.{BassStyle}
 use Rattle.composer.specs.declared.bass.BassLane.{BassLane}
@@ -116,7 +117,7 @@ unfoldable pub playedNoteOf : NoiseStream → BarPart → BassStyle → Float �
 playedNoteOf s p style beatS i =
     let d = noteDrawnOf s (onsetOf beatS (p .bar) (getD (p .steps .at) i 0)) p style i in
     record {
-      note = record { bar = p .bar; spare = 0; at = d .at; midi = d .midi; vel = d .vel; dur = heldOf beatS (gapOf p i) (d .at) };
+      note = record { bar = p .bar; role = NoteRole.Backing; spare = 0; at = d .at; midi = d .midi; vel = d .vel; dur = heldOf beatS (gapOf p i) (d .at) };
       stream = d .stream;
     }
 

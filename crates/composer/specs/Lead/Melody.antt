@@ -28,10 +28,10 @@ use Rattle.composer.specs.declared.lead.melody.LeadStep.{LeadStep}
 use Rattle.composer.specs.declared.lead.melody.Sung.{Sung}
 
 abbrev pub noLead : LeadNote
-noLead = record { bar = 0; beat = zero32; note = 0; vel = zero32 }
+noLead = record { bar = 0; beat = zero32; note = 0; role = Quote; vel = zero32 }
 
 abbrev pub pastLead : LeadNote
-pastLead = record { bar = 0; beat = nan; note = 0; vel = nan }
+pastLead = record { bar = 0; beat = nan; note = 0; role = Quote; vel = nan }
 
 -- the peak is 0.06 louder
 abbrev pub velocityOf : Role → Float → Float
@@ -48,7 +48,7 @@ stepOf pool g l p first =
     let c = roleOf l p in
     let q = pitchOf (c .role) (c .stream) pool g l p first in
     let d = drawOf (g .velocity) (q .stream) in
-    record { note = q .note; vel = velocityOf (c .role) (d .value); line = carriedOf l (p .bar) (q .note) (d .stream) }
+    record { note = q .note; role = c .role; vel = velocityOf (c .role) (d .value); line = carriedOf l (p .bar) (q .note) (d .stream) }
 
 -- the first note sung, or else the one that the line starts from
 abbrev pub openingOf : ℕ → ℕ → ℕ → ℕ
@@ -62,7 +62,7 @@ unfoldable pub singOf : List Bool → Ground → ℕ → Beats → Sung → ℕ 
 singOf pool g bar b m i =
     let t = stepOf pool g (m .line) (placeOf bar b i) (firstSungOf m) in
     record {
-      notes = set (m .notes) (m .count) (record { bar = bar; beat = getD (b .at) i nan; note = t .note; vel = t .vel });
+      notes = set (m .notes) (m .count) (record { bar = bar; beat = getD (b .at) i nan; note = t .note; role = t .role; vel = t .vel });
       count = m .count + 1;
       line = t .line;
     }

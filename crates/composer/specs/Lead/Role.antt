@@ -11,6 +11,16 @@ use Rattle.composer.specs.declared.lead.line.Line.{Line}
 use Rattle.composer.specs.declared.lead.role.Role.{Role}
 use Rattle.composer.specs.declared.lead.role.Role.the-variants.{Quote, Close, Peak, Resolve, ChordTone, Passing}
 use Rattle.composer.specs.declared.lead.role.RoleDraw.{RoleDraw}
+use Rattle.composer.specs.declared.note.NoteRole.{NoteRole}
+
+-- the same role as a note of the score has it
+abbrev pub notedOf : Role → NoteRole
+notedOf Quote = NoteRole.Quote
+notedOf Close = NoteRole.Close
+notedOf Peak = NoteRole.Peak
+notedOf Resolve = NoteRole.Resolve
+notedOf ChordTone = NoteRole.ChordTone
+notedOf Passing = NoteRole.Passing
 
 -- bar 4, where the answer begins, repeats the head
 abbrev pub quotesOf : Place → ℕ → Bool

@@ -6,6 +6,7 @@ use crate::bass::rhythm::Steps;
 use crate::chord::FIFTH;
 use crate::chord::in_octave_from;
 use crate::note::Note;
+use crate::note::NoteRole;
 use crate::spread::Spread;
 use crate::style::BassStyle;
 use crate::timing::BEATS_PER_BAR;
@@ -233,6 +234,7 @@ pub(crate) fn played_note(
     let dur = held(beat_s, g, d.at);
     let note = Note {
         bar: p.bar,
+        role: NoteRole::Backing,
         spare: 0,
         at: d.at,
         midi: d.midi,

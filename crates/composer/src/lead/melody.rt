@@ -29,10 +29,11 @@ const START_LIFT: u8 = 2;
 // The peak's velocity over its draw.
 const PEAK_ACCENT: f32 = 0.06;
 
-// A note before it is played: its bar, its beat in the bar, pitch and velocity.
+// A note before it is played: its bar, its beat in the bar, pitch, role and velocity.
 pub struct LeadNote {
     pub bar: u8,
     pub note: u8,
+    pub role: Role,
     pub beat: f32,
     pub vel: f32,
 }
@@ -40,6 +41,7 @@ pub struct LeadNote {
 // One step of the melody, and the line after it.
 pub struct LeadStep {
     pub note: u8,
+    pub role: Role,
     pub vel: f32,
     pub line: Line,
 }
@@ -55,6 +57,7 @@ const NO_LEAD: LeadNote = LeadNote {
     bar: 0,
     beat: 0.0,
     note: 0,
+    role: Role::Quote,
     vel: 0.0,
 };
 
@@ -91,6 +94,7 @@ fn step(pool: &[bool], g: Ground, l: Line, p: Place, first: u8) -> LeadStep
     let line = carried(l, p.bar, note, sd);
     LeadStep {
         note: note,
+        role: role,
         vel: vel,
         line: line,
     }
@@ -159,10 +163,12 @@ pub(crate) fn melody(
             let place = place_of(bar, b, i);
             let first = opening(count, line.prev, notes[0].note);
             let t = step(pool, g, line, place, first);
+            let role = t.role;
             notes[count] = LeadNote {
                 bar: bar,
                 beat: at[i],
                 note: t.note,
+                role: role,
                 vel: t.vel,
             };
             count += 1;

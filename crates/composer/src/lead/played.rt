@@ -40,6 +40,8 @@ fn on_grid(x: LeadNote, beat_s: f32) -> f32
 fn play(x: LeadNote, beat_s: f32, dur: f32, s: NoiseStream) -> PlayedNote
     ensures { λ r. ⌜ r ≡ playedNoteOf x «beat_s» dur s ⌝ }
 {
+    let role = x.role;
+    let noted = role.noted();
     let lag = LEAD_LAG;
     let d = lag.after(on_grid(x, beat_s), s);
     let sd = d.stream;
@@ -48,6 +50,7 @@ fn play(x: LeadNote, beat_s: f32, dur: f32, s: NoiseStream) -> PlayedNote
     let se = e.stream;
     let note = Note {
         bar: x.bar,
+        role: noted,
         spare: 0,
         at: d.value,
         midi: x.note,

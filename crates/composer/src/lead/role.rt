@@ -1,9 +1,10 @@
 // What a note does in the melody: the first role that applies.
 ghost use mathlib.Core.Path.{_≡_};
-ghost use Rattle.composer.specs.Lead.Role.{quotesOf, peaksOf, leaptOf, chosenOf, chanceRoleOf, roleOf};
+ghost use Rattle.composer.specs.Lead.Role.{notedOf, quotesOf, peaksOf, leaptOf, chosenOf, chanceRoleOf, roleOf};
 use crate::lead::line::Line;
 use crate::lead::line::Place;
 use crate::lead::tones::distance;
+use crate::note::NoteRole;
 use streams::draw::chance;
 use streams::stream::NoiseStream;
 
@@ -31,6 +32,22 @@ pub enum Role {
     ChordTone,
     // a scale step or two from the last note
     Passing,
+}
+
+impl Role {
+    // The same role as a note of the score has it.
+    pub fn noted(self) -> NoteRole
+        ensures { λ r. ⌜ r ≡ notedOf self ⌝ }
+    {
+        match self {
+            Role::Quote => NoteRole::Quote,
+            Role::Close => NoteRole::Close,
+            Role::Peak => NoteRole::Peak,
+            Role::Resolve => NoteRole::Resolve,
+            Role::ChordTone => NoteRole::ChordTone,
+            Role::Passing => NoteRole::Passing,
+        }
+    }
 }
 
 // A role, and the stream after what its choice drew.

@@ -69,11 +69,11 @@ mul-next-steps c = search needs
 array-copy-out-next-steps : tie.Need-array-copy-out-next-steps Inv-loop2 μ-loop2 Inv-loop μ-loop
 array-copy-out-next-steps c = search needs
 
-cast-t37 : tie.Need-cast-t37 Inv-loop2 μ-loop2 Inv-loop μ-loop
-cast-t37 c = search needs
+cast-t38 : tie.Need-cast-t38 Inv-loop2 μ-loop2 Inv-loop μ-loop
+cast-t38 c = search needs
 
-element-copy-out-t40 : tie.Need-element-copy-out-t40 Inv-loop2 μ-loop2 Inv-loop μ-loop
-element-copy-out-t40 c = search needs
+element-copy-out-t41 : tie.Need-element-copy-out-t41 Inv-loop2 μ-loop2 Inv-loop μ-loop
+element-copy-out-t41 c = search needs
 
 loop2-holds : tie.Need-loop2-holds Inv-loop2 μ-loop2 Inv-loop μ-loop
 unfolding barPlayed partOf
@@ -160,8 +160,8 @@ bass-spec =
     array-copy-out-steps
     mul-next-steps
     array-copy-out-next-steps
-    cast-t37
-    element-copy-out-t40
+    cast-t38
+    element-copy-out-t41
     loop2-holds
     played-note-requires
     mul-notes

@@ -120,11 +120,11 @@ step-requires c κs =
     let asks = note-asks (a .t2) (a .t3) (a .pool .now) (a .style) r (a .s) (start .result) (sungWith (replicate 56 noLead) 0 (opened .result)) (sungWith (l .notes) (l .count) (l .line)) (sungWith (l2 .notes) (l2 .count) (l2 .line)) (g .result) (l .k) (l2 .i) (start .ensures) (rw (opened .ensures)) (l .inv .2) ground (l2 .inv .4) (omega arith) (omega arith) in
     (asks .0, rw (c .opening .ensures) (asks .1 .line))
 
-mul-t40 : tie.Need-mul-t40 Inv-loop2 μ-loop2 Inv-loop μ-loop
-mul-t40 c = omega arith
+mul-t42 : tie.Need-mul-t42 Inv-loop2 μ-loop2 Inv-loop μ-loop
+mul-t42 c = omega arith
 
-array-read-t43 : tie.Need-array-read-t43 Inv-loop2 μ-loop2 Inv-loop μ-loop
-array-read-t43 c = omega arith
+array-read-t45 : tie.Need-array-read-t45 Inv-loop2 μ-loop2 Inv-loop μ-loop
+array-read-t45 c = omega arith
 
 mul-notes : tie.Need-mul-notes Inv-loop2 μ-loop2 Inv-loop μ-loop
 mul-notes c = omega arith
@@ -212,8 +212,8 @@ melody-spec =
     element-copy-out-opening
     opening-requires
     step-requires
-    mul-t40
-    array-read-t43
+    mul-t42
+    array-read-t45
     mul-notes
     array-set-from-notes
     add-count
