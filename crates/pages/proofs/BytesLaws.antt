@@ -5,10 +5,16 @@ use Prim.Native.Nat.{ℕ, _+_, _*_, _/_, _%_, _<_}
 use native.Mathlib.Omega.{arith}
 use lib.ListN.{length}
 use Rattle.pages.specs.Bytes.{be32, be64, be64At, field}
+use Rattle.pages.specs.Edition.{editionField, editionSize}
+use Rattle.pages.specs.declared.edition.Edition.{Edition}
 
 pub length-field : (tag : ℕ) (body : List ℕ) → length (field tag body) ≡ 3 + length body
 unfolding field
 length-field tag body = omega arith
+
+pub edition-length : (edition : Edition) → length (editionField edition) ≡ editionSize edition
+edition-length Edition.One = refl
+edition-length Edition.Two = length-field 0x00 (2 ∷ [])
 
 next-byte : (n d : ℕ) → d < 256 → ((n * 256 + d) % 256 ≡ d) × ((n * 256 + d) / 256 ≡ n)
 next-byte n d h = (omega arith, omega arith)

@@ -38,12 +38,13 @@ use Rattle.pages.specs.Demand3.{bodyOf, has, IsNote, playsIn, pageAt, sh
 use Rattle.pages.specs.Hits.{pageHits}
 use Rattle.pages.specs.Lane.{hitBytes, eventsOf, drawnFor}
 use Rattle.pages.specs.Page.{pageBytes, pageAsked}
-use Rattle.pages.specs.Sheet.{playsBytes, sheetBytes, sheetAsked}
+use Rattle.pages.specs.Sheet.{playsBytes, sheetBytes, sheetIn, sheetAsked}
+use Rattle.pages.specs.declared.edition.Edition.{Edition}
 use Rattle.pages.specs.declared.lane.Lane.{Lane}
 use Rattle.pages.proofs.AnswerLaws.{room-answers}
 use Rattle.pages.proofs.LaneLaws.{shown-size}
 use Rattle.pages.proofs.PageLaws.{composed-is, page-found}
-use Rattle.pages.proofs.ReadLaws.{chord-body, lead-body, hits-body, bass-body, plays-body}
+use Rattle.pages.proofs.ReadLaws.{chord-body, lead-body, keys-body, hits-body, bass-body, plays-body}
 use Rattle.pages.proofs.ScoreLaws.{chord-some, bass-some, lead-shown, bass-shown}
 
 strikes-by : (layer : Plays → Bool) (a : Answer Plays) (p : Plays) → a ≡ Gives p → strikes layer a ≡ true → layer p ≡ true
@@ -101,7 +102,7 @@ module _ (style : Style) (seed b : ℕ) (p : Plays) (plays : playsAt (arrangeOf 
   chord-has e = rw (page-is, chord-body s p bar hits, e) (lt-ltb 0 (length (getD (notesOf (s .«bar_chords»)) bar [])) (chord-some style s scale promise bar bar-lt))
 
   bass-has : p .bass ≡ true → has 0x08 page ≡ true
-  bass-has e = rw (page-is, bass-body s p bar hits, e) (lt-ltb 0 (length (joined (drawnFor bar (eventsOf s Lane.Bass)))) (bass-some style s scale promise bar bar-lt))
+  bass-has e = rw (page-is, bass-body s p bar hits, e) (lt-ltb 0 (length (joined (drawnFor bar (eventsOf Edition.Two s Lane.Bass)))) (bass-some style s scale promise bar bar-lt))
 
   -- its hits
   pub hits-read : bodyOf 0x07 page ≡ joined (map hitBytes hits)
@@ -115,17 +116,20 @@ module _ (style : Style) (seed b : ℕ) (p : Plays) (plays : playsAt (arrangeOf 
       body ∙ shown-whole (p .pad) notes (rw body at h) ∙ List·getD-map notesIn (s .«bar_chords») bar pastChord
 
   -- its notes
-  lead-read : bodyOf 0x05 page ≡ joined (shown (p .keys) (drawnFor bar (eventsOf s Lane.Lead)))
+  pub lead-read : bodyOf 0x05 page ≡ joined (shown (p .keys) (drawnFor bar (eventsOf Edition.Two s Lane.Lead)))
   lead-read = rw page-is (lead-body s p bar hits)
 
-  bass-read : bodyOf 0x08 page ≡ joined (shown (p .bass) (drawnFor bar (eventsOf s Lane.Bass)))
+  pub keys-read : bodyOf 0x06 page ≡ joined (shown (p .keys) (drawnFor bar (eventsOf Edition.Two s Lane.Keys)))
+  keys-read = rw page-is (keys-body s p bar hits)
+
+  pub bass-read : bodyOf 0x08 page ≡ joined (shown (p .bass) (drawnFor bar (eventsOf Edition.Two s Lane.Bass)))
   bass-read = rw page-is (bass-body s p bar hits)
 
-  notes-whole : (length (bodyOf 0x05 page) % 14 ≡ 0) × (length (bodyOf 0x08 page) % 14 ≡ 0)
+  notes-whole : (length (bodyOf 0x05 page) % 15 ≡ 0) × (length (bodyOf 0x08 page) % 15 ≡ 0)
   notes-whole = (rw lead-read (omega (arith, shown-size s Lane.Lead (p .keys) bar)), rw bass-read (omega (arith, shown-size s Lane.Bass (p .bass) bar)))
 
   bass-plays : has 0x08 page ≡ true → p .bass ≡ true
-  bass-plays h = shown-some (p .bass) (drawnFor bar (eventsOf s Lane.Bass)) (rw bass-read at h)
+  bass-plays h = shown-some (p .bass) (drawnFor bar (eventsOf Edition.Two s Lane.Bass)) (rw bass-read at h)
 
   lead-sings : (midi : ℕ) → IsNote 0x05 page midi → Sings style scale midi
   lead-sings midi n = subst (Sings style scale) (n .2) (rw lead-read (lead-shown style s scale promise bar bar-lt (p .keys) (n .0) (rw lead-read at (n .1))))
@@ -152,10 +156,10 @@ bit-drums p = go (p .pad) (p .keys) (p .drums) (p .bass)
 
 module _ (style : Style) (seed : ℕ) where
   abbrev sheet : List ℕ
-  sheet = sheetBytes seed (composedOf style seed .score) (composedOf style seed .scale) (arrangeOf seed)
+  sheet = sheetBytes Edition.Two seed (composedOf style seed .score) (composedOf style seed .scale) (arrangeOf seed)
 
   sheet-asked : sheetAsked (styleNumberOf style) seed ≡ Writes sheet
-  unfolding sheetAsked
+  unfolding sheetIn
   sheet-asked = rw (composed-is style seed, composed-done style seed)
 
   sheet-written : (buf : List ℕ) → length (sheetFor style seed) ≤ length buf

@@ -34,7 +34,7 @@ use Rattle.pages.specs.declared.hits.HeardRuns.{HeardRuns}
 use Rattle.pages.specs.declared.hits.Part.{Part}
 use Rattle.pages.specs.declared.lane.Lane.{Lane}
 use Rattle.pages.proofs.BytesLaws.{length-field}
-use Rattle.pages.proofs.LaneLaws.{hit-bar, hits-wide, run-within, filter-shown, shown-most}
+use Rattle.pages.proofs.LaneLaws.{hits-wide, run-within, filter-shown, shown-most}
 
 -- ---- hits in bytes
 bytes-one : (on : Bool) (h : Hit) → joined (map hitBytes (shown on (h ∷ []))) ≡ shown on (hitBytes h)
@@ -93,8 +93,8 @@ module _ (s : Score) (promise : LanesPromise s) where
   abbrev drawn : List Hit
   drawn = take (s .«hit_count») (s .hits)
 
-  below-same : (bar : ℕ) → count (earlier bar) (map hitBytes drawn) ≡ count (λ h. ltb (hitBar h) bar) drawn
-  below-same bar = count-map hitBytes (earlier bar) (λ h. ltb (hitBar h) bar) (λ h. ap (λ (n : ℕ). ltb n bar) (hit-bar h)) drawn
+  below-same : (bar : ℕ) → count (earlier bar) (map hitBar drawn) ≡ count (λ h. ltb (hitBar h) bar) drawn
+  below-same bar = count-map hitBar (earlier bar) (λ h. ltb (hitBar h) bar) (λ h. refl) drawn
 
   -- the run of a bar's hits is what was drawn for it
   run-hits : (on : Bool) (bar : ℕ) → runOf (runIn s Lane.Hits on bar) (s .hits) ≡ shown on (hitsFor s bar)

@@ -17,9 +17,11 @@ use Rattle.composer.specs.declared.note.Hit.{Hit}
 use Rattle.composer.specs.declared.note.Note.{Note}
 use Rattle.composer.specs.declared.score.Score.{Score}
 use Rattle.pages.specs.Bar.{shown}
-use Rattle.pages.specs.Lane.{widthOf, countIn, noteBytes, hitBytes, barIn, eventsOf, runOf, InLane, earlier, drawnFor, runIn}
+use Rattle.pages.specs.Edition.{noteWidth}
+use Rattle.pages.specs.Lane.{widthOf, countIn, soundBytes, noteBytes, hitBytes, barIn, eventsOf, runOf, InLane, barsOf, earlier, drawnFor, runIn}
 use Rattle.pages.specs.Page.{barSize}
 use Rattle.pages.specs.Writable.{SizedLanes}
+use Rattle.pages.specs.declared.edition.Edition.{Edition}
 use Rattle.pages.specs.declared.lane.Lane.{Lane}
 use Rattle.laws.proofs.Counts.{count-most, count-filter, count-map, count-on, all-kept}
 use Rattle.laws.proofs.Joins.{length-joined, times-on, joined-run-on}
@@ -30,41 +32,48 @@ use Rattle.laws.proofs.Writes.{wrote-then, wrote-as}
 use Rattle.pages.proofs.WritableLaws.{sized}
 
 -- ---- one event
-pub note-width : (n : Note) → length (noteBytes n) ≡ 14
-unfolding noteBytes
-note-width n = refl
+pub note-width : (edition : Edition) (n : Note) → length (noteBytes edition n) ≡ noteWidth edition
+unfolding noteBytes soundBytes
+note-width Edition.One n = refl
+note-width Edition.Two n = refl
 
 pub hit-width : (h : Hit) → length (hitBytes h) ≡ 10
 unfolding hitBytes
 hit-width h = refl
 
-pub note-bar : (n : Note) → barIn (noteBytes n) ≡ noteBar n
-unfolding noteBytes
-note-bar n = refl
+pub note-bar : (edition : Edition) (n : Note) → barIn (noteBytes edition n) ≡ noteBar n
+unfolding noteBytes soundBytes
+note-bar Edition.One n = refl
+note-bar Edition.Two n = refl
 
 pub hit-bar : (h : Hit) → barIn (hitBytes h) ≡ hitBar h
 unfolding hitBytes
 hit-bar h = refl
 
 -- ---- all of a lane's
-notes-wide : (ns : List Note) → All (λ e. length e ≡ 14) (map noteBytes ns)
-notes-wide ns = all-map noteBytes (λ e. length e ≡ 14) ns (all-every (λ n. length (noteBytes n) ≡ 14) note-width ns)
+notes-wide : (edition : Edition) (ns : List Note) → All (λ e. length e ≡ noteWidth edition) (map (noteBytes edition) ns)
+notes-wide edition ns =
+    all-map (noteBytes edition) (λ e. length e ≡ noteWidth edition) ns (all-every (λ n. length (noteBytes edition n) ≡ noteWidth edition) (note-width edition) ns)
 
 pub hits-wide : (hs : List Hit) → All (λ e. length e ≡ 10) (map hitBytes hs)
 hits-wide hs = all-map hitBytes (λ e. length e ≡ 10) hs (all-every (λ h. length (hitBytes h) ≡ 10) hit-width hs)
 
-pub widths : (s : Score) (lane : Lane) → All (λ e. length e ≡ widthOf lane) (eventsOf s lane)
-widths s Lane.Lead = notes-wide (take (s .«lead_count») (s .lead))
-widths s Lane.Keys = notes-wide (take (s .«keys_count») (s .keys))
-widths s Lane.Hits = hits-wide (take (s .«hit_count») (s .hits))
-widths s Lane.Bass = notes-wide (take (s .«bass_count») (s .bass))
+pub widths : (edition : Edition) (s : Score) (lane : Lane) → All (λ e. length e ≡ widthOf edition lane) (eventsOf edition s lane)
+widths edition s Lane.Lead = notes-wide edition (take (s .«lead_count») (s .lead))
+widths edition s Lane.Keys = notes-wide edition (take (s .«keys_count») (s .keys))
+widths edition s Lane.Hits = hits-wide (take (s .«hit_count») (s .hits))
+widths edition s Lane.Bass = notes-wide edition (take (s .«bass_count») (s .bass))
 
 -- 65,535 is the most that a field's length can say
-pub width-small : (lane : Lane) (n : ℕ) → n ≤ 128 → widthOf lane * n < 65536
-width-small Lane.Lead n h = omega arith
-width-small Lane.Keys n h = omega arith
-width-small Lane.Hits n h = omega arith
-width-small Lane.Bass n h = omega arith
+notes-small : (edition : Edition) (n : ℕ) → n ≤ 128 → noteWidth edition * n < 65536
+notes-small Edition.One n h = omega arith
+notes-small Edition.Two n h = omega arith
+
+pub width-small : (edition : Edition) (lane : Lane) (n : ℕ) → n ≤ 128 → widthOf edition lane * n < 65536
+width-small edition Lane.Lead n h = notes-small edition n h
+width-small edition Lane.Keys n h = notes-small edition n h
+width-small edition Lane.Hits n h = omega arith
+width-small edition Lane.Bass n h = notes-small edition n h
 
 -- the whole of a list as a run
 pub whole-run : (es : List (List ℕ)) (n : ℕ) → length es ≡ n → runOf (record { from = 0; to = n }) es ≡ es
@@ -82,12 +91,48 @@ module _ {A : Type 0} (bytes : A → List ℕ) (d : A) (w : ℕ) (xs : List A) (
       let here = map-take-at bytes xs n i d [] h k in
       wrote-as (sym (times-on w from i begun)) (ap (λ (l : List ℕ). joined (take (i - from) (drop from events)) ++ l) (sym here) ∙ sym on) (wrote-then v e)
 
+-- ---- the bars of a lane
+-- bars stand in their order by themselves
+abbrev itself : ℕ → ℕ
+itself b = b
+
+-- counted among the bars, or among the events by their first bytes
+module _ {A : Type 0} (bar : A → ℕ) (bytes : A → List ℕ) (same : (x : A) → barIn (bytes x) ≡ bar x) where
+  count-same-bars : (v : ℕ) (xs : List A) → count (earlier v) (map bar xs) ≡ count (λ e. ltb (barIn e) v) (map bytes xs)
+  count-same-bars v xs =
+      count-map bar (earlier v) (λ x. ltb (bar x) v) (λ x. refl) xs
+      ∙ sym (count-map bytes (λ e. ltb (barIn e) v) (λ x. ltb (bar x) v) (λ x. ap (λ (b : ℕ). ltb b v) (same x)) xs)
+
+count-bars : (edition : Edition) (s : Score) (lane : Lane) (v : ℕ) → count (earlier v) (barsOf s lane) ≡ count (λ e. ltb (barIn e) v) (eventsOf edition s lane)
+count-bars edition s Lane.Lead v = count-same-bars noteBar (noteBytes edition) (note-bar edition) v (take (s .«lead_count») (s .lead))
+count-bars edition s Lane.Keys v = count-same-bars noteBar (noteBytes edition) (note-bar edition) v (take (s .«keys_count») (s .keys))
+count-bars edition s Lane.Hits v = count-same-bars hitBar hitBytes hit-bar v (take (s .«hit_count») (s .hits))
+count-bars edition s Lane.Bass v = count-same-bars noteBar (noteBytes edition) (note-bar edition) v (take (s .«bass_count») (s .bass))
+
 module _ (s : Score) (p : SizedLanes s) where
-  pub length-events : (lane : Lane) → length (eventsOf s lane) ≡ countIn s lane
-  length-events Lane.Lead = length-map-take noteBytes (s .lead) (s .«lead_count») (omega (arith, p .lead .few, p .lead .size))
-  length-events Lane.Keys = length-map-take noteBytes (s .keys) (s .«keys_count») (omega (arith, p .keys .few, p .keys .size))
-  length-events Lane.Hits = length-map-take hitBytes (s .hits) (s .«hit_count») (omega (arith, p .hits .few, p .hits .size))
-  length-events Lane.Bass = length-map-take noteBytes (s .bass) (s .«bass_count») (omega (arith, p .bass .few, p .bass .size))
+  lead-room : s .«lead_count» ≤ length (s .lead)
+  lead-room = omega (arith, p .lead .few, p .lead .size)
+
+  keys-room : s .«keys_count» ≤ length (s .keys)
+  keys-room = omega (arith, p .keys .few, p .keys .size)
+
+  hits-room : s .«hit_count» ≤ length (s .hits)
+  hits-room = omega (arith, p .hits .few, p .hits .size)
+
+  bass-room : s .«bass_count» ≤ length (s .bass)
+  bass-room = omega (arith, p .bass .few, p .bass .size)
+
+  pub length-events : (edition : Edition) (lane : Lane) → length (eventsOf edition s lane) ≡ countIn s lane
+  length-events edition Lane.Lead = length-map-take (noteBytes edition) (s .lead) (s .«lead_count») lead-room
+  length-events edition Lane.Keys = length-map-take (noteBytes edition) (s .keys) (s .«keys_count») keys-room
+  length-events edition Lane.Hits = length-map-take hitBytes (s .hits) (s .«hit_count») hits-room
+  length-events edition Lane.Bass = length-map-take (noteBytes edition) (s .bass) (s .«bass_count») bass-room
+
+  pub length-bars : (lane : Lane) → length (barsOf s lane) ≡ countIn s lane
+  length-bars Lane.Lead = length-map-take noteBar (s .lead) (s .«lead_count») lead-room
+  length-bars Lane.Keys = length-map-take noteBar (s .keys) (s .«keys_count») keys-room
+  length-bars Lane.Hits = length-map-take hitBar (s .hits) (s .«hit_count») hits-room
+  length-bars Lane.Bass = length-map-take noteBar (s .bass) (s .«bass_count») bass-room
 
   pub count-small : (lane : Lane) → countIn s lane ≤ 128
   count-small Lane.Lead = omega (arith, p .lead .few)
@@ -95,77 +140,83 @@ module _ (s : Score) (p : SizedLanes s) where
   count-small Lane.Hits = omega (arith, p .hits .few)
   count-small Lane.Bass = omega (arith, p .bass .few)
 
-  pub run-small : (lane : Lane) (n : ℕ) → n ≤ countIn s lane → widthOf lane * n < 65536
-  run-small lane n h = width-small lane n (omega (arith, count-small lane))
+  pub run-small : (edition : Edition) (lane : Lane) (n : ℕ) → n ≤ countIn s lane → widthOf edition lane * n < 65536
+  run-small edition lane n h = width-small edition lane n (omega (arith, count-small lane))
 
 module _ (s : Score) (p : LanesPromise s) where
   -- ---- bars
-  -- an event's first byte is its entry's bar
-  pub lead-bar : (i : ℕ) → i < s .«lead_count» → barIn (getD (eventsOf s Lane.Lead) i []) ≡ getD (s .lead) i pastNote .bar
-  lead-bar i h = ap barIn (map-take-at noteBytes (s .lead) (s .«lead_count») i pastNote [] h (omega (arith, p .lead .few, p .lead .size))) ∙ note-bar (getD (s .lead) i pastNote)
+  pub lead-bar : (i : ℕ) → i < s .«lead_count» → getD (barsOf s Lane.Lead) i 0 ≡ getD (s .lead) i pastNote .bar
+  lead-bar i h = map-take-at noteBar (s .lead) (s .«lead_count») i pastNote 0 h (lead-room s (sized s p))
 
-  pub keys-bar : (i : ℕ) → i < s .«keys_count» → barIn (getD (eventsOf s Lane.Keys) i []) ≡ getD (s .keys) i pastNote .bar
-  keys-bar i h = ap barIn (map-take-at noteBytes (s .keys) (s .«keys_count») i pastNote [] h (omega (arith, p .keys .few, p .keys .size))) ∙ note-bar (getD (s .keys) i pastNote)
+  pub keys-bar : (i : ℕ) → i < s .«keys_count» → getD (barsOf s Lane.Keys) i 0 ≡ getD (s .keys) i pastNote .bar
+  keys-bar i h = map-take-at noteBar (s .keys) (s .«keys_count») i pastNote 0 h (keys-room s (sized s p))
 
-  pub hits-bar : (i : ℕ) → i < s .«hit_count» → barIn (getD (eventsOf s Lane.Hits) i []) ≡ getD (s .hits) i pastHit .bar
-  hits-bar i h = ap barIn (map-take-at hitBytes (s .hits) (s .«hit_count») i pastHit [] h (omega (arith, p .hits .few, p .hits .size))) ∙ hit-bar (getD (s .hits) i pastHit)
+  pub hits-bar : (i : ℕ) → i < s .«hit_count» → getD (barsOf s Lane.Hits) i 0 ≡ getD (s .hits) i pastHit .bar
+  hits-bar i h = map-take-at hitBar (s .hits) (s .«hit_count») i pastHit 0 h (hits-room s (sized s p))
 
-  pub bass-bar : (i : ℕ) → i < s .«bass_count» → barIn (getD (eventsOf s Lane.Bass) i []) ≡ getD (s .bass) i pastNote .bar
-  bass-bar i h = ap barIn (map-take-at noteBytes (s .bass) (s .«bass_count») i pastNote [] h (omega (arith, p .bass .few, p .bass .size))) ∙ note-bar (getD (s .bass) i pastNote)
+  pub bass-bar : (i : ℕ) → i < s .«bass_count» → getD (barsOf s Lane.Bass) i 0 ≡ getD (s .bass) i pastNote .bar
+  bass-bar i h = map-take-at noteBar (s .bass) (s .«bass_count») i pastNote 0 h (bass-room s (sized s p))
 
   -- bars never fall along a lane
-  pub bars-sorted : (lane : Lane) → Sorted (by barIn) (eventsOf s lane)
-  bars-sorted Lane.Lead =
-      sorted-map noteBar barIn noteBytes note-bar (take (s .«lead_count») (s .lead)) (rises-sorted noteBar pastNote (s .lead) (s .«lead_count») 7 (omega (arith, p .lead .few, p .lead .size)) (p .lead .rises))
-  bars-sorted Lane.Keys =
-      sorted-map noteBar barIn noteBytes note-bar (take (s .«keys_count») (s .keys)) (rises-sorted noteBar pastNote (s .keys) (s .«keys_count») 7 (omega (arith, p .keys .few, p .keys .size)) (p .keys .rises))
-  bars-sorted Lane.Hits =
-      sorted-map hitBar barIn hitBytes hit-bar (take (s .«hit_count») (s .hits)) (rises-sorted hitBar pastHit (s .hits) (s .«hit_count») 7 (omega (arith, p .hits .few, p .hits .size)) (p .hits .rises))
-  bars-sorted Lane.Bass =
-      sorted-map noteBar barIn noteBytes note-bar (take (s .«bass_count») (s .bass)) (rises-sorted noteBar pastNote (s .bass) (s .«bass_count») 7 (omega (arith, p .bass .few, p .bass .size)) (p .bass .rises))
+  bars-sorted : (lane : Lane) → Sorted (by itself) (barsOf s lane)
+  bars-sorted Lane.Lead = sorted-map noteBar itself noteBar (λ x. refl) (take (s .«lead_count») (s .lead)) (rises-sorted noteBar pastNote (s .lead) (s .«lead_count») 7 (lead-room s (sized s p)) (p .lead .rises))
+  bars-sorted Lane.Keys = sorted-map noteBar itself noteBar (λ x. refl) (take (s .«keys_count») (s .keys)) (rises-sorted noteBar pastNote (s .keys) (s .«keys_count») 7 (keys-room s (sized s p)) (p .keys .rises))
+  bars-sorted Lane.Hits = sorted-map hitBar itself hitBar (λ x. refl) (take (s .«hit_count») (s .hits)) (rises-sorted hitBar pastHit (s .hits) (s .«hit_count») 7 (hits-room s (sized s p)) (p .hits .rises))
+  bars-sorted Lane.Bass = sorted-map noteBar itself noteBar (λ x. refl) (take (s .«bass_count») (s .bass)) (rises-sorted noteBar pastNote (s .bass) (s .«bass_count») 7 (bass-room s (sized s p)) (p .bass .rises))
+
+  events-sorted : (edition : Edition) (lane : Lane) → Sorted (by barIn) (eventsOf edition s lane)
+  events-sorted edition Lane.Lead =
+      sorted-map noteBar barIn (noteBytes edition) (note-bar edition) (take (s .«lead_count») (s .lead)) (rises-sorted noteBar pastNote (s .lead) (s .«lead_count») 7 (lead-room s (sized s p)) (p .lead .rises))
+  events-sorted edition Lane.Keys =
+      sorted-map noteBar barIn (noteBytes edition) (note-bar edition) (take (s .«keys_count») (s .keys)) (rises-sorted noteBar pastNote (s .keys) (s .«keys_count») 7 (keys-room s (sized s p)) (p .keys .rises))
+  events-sorted edition Lane.Hits =
+      sorted-map hitBar barIn hitBytes hit-bar (take (s .«hit_count») (s .hits)) (rises-sorted hitBar pastHit (s .hits) (s .«hit_count») 7 (hits-room s (sized s p)) (p .hits .rises))
+  events-sorted edition Lane.Bass =
+      sorted-map noteBar barIn (noteBytes edition) (note-bar edition) (take (s .«bass_count») (s .bass)) (rises-sorted noteBar pastNote (s .bass) (s .«bass_count») 7 (bass-room s (sized s p)) (p .bass .rises))
 
   -- ---- events before a bar: the first i are
   -- so is event i
-  pub before-on : (lane : Lane) (bar i : ℕ) → i < countIn s lane → i ≡ count (earlier bar) (take i (eventsOf s lane)) → ltb (barIn (getD (eventsOf s lane) i [])) bar ≡ true
-      → i + 1 ≡ count (earlier bar) (take (i + 1) (eventsOf s lane))
+  pub before-on : (lane : Lane) (bar i : ℕ) → i < countIn s lane → i ≡ count (earlier bar) (take i (barsOf s lane)) → ltb (getD (barsOf s lane) i 0) bar ≡ true
+      → i + 1 ≡ count (earlier bar) (take (i + 1) (barsOf s lane))
   before-on lane bar i h c e =
-      let on = count-on (earlier bar) (eventsOf s lane) i [] (omega (arith, length-events s (sized s p) lane)) in
+      let on = count-on (earlier bar) (barsOf s lane) i 0 (omega (arith, length-bars s (sized s p) lane)) in
       sym (on ∙ rw e (omega (arith, c)))
 
   -- event i is not, nor is any after it
-  pub before-first : (lane : Lane) (bar i : ℕ) → i < countIn s lane → i ≡ count (earlier bar) (take i (eventsOf s lane)) → ltb (barIn (getD (eventsOf s lane) i [])) bar ≡ false
-      → i ≡ count (earlier bar) (eventsOf s lane)
-  before-first lane bar i h c e = sym (below-first barIn bar [] (eventsOf s lane) i (bars-sorted lane) (omega (arith, length-events s (sized s p) lane)) (sym c) e)
+  pub before-first : (lane : Lane) (bar i : ℕ) → i < countIn s lane → i ≡ count (earlier bar) (take i (barsOf s lane)) → ltb (getD (barsOf s lane) i 0) bar ≡ false
+      → i ≡ count (earlier bar) (barsOf s lane)
+  before-first lane bar i h c e = sym (below-first itself bar 0 (barsOf s lane) i (bars-sorted lane) (omega (arith, length-bars s (sized s p) lane)) (sym c) e)
 
   -- nor are the first i of the next bar or later
-  pub before-next : (lane : Lane) (bar i : ℕ) → i ≤ countIn s lane → i ≡ count (earlier bar) (take i (eventsOf s lane)) → i ≡ count (earlier (bar + 1)) (take i (eventsOf s lane))
+  pub before-next : (lane : Lane) (bar i : ℕ) → i ≤ countIn s lane → i ≡ count (earlier bar) (take i (barsOf s lane)) → i ≡ count (earlier (bar + 1)) (take i (barsOf s lane))
   before-next lane bar i h c =
-      let es = take i (eventsOf s lane) in
-      omega (arith, c, count-below barIn bar es, count-most (earlier (bar + 1)) es, length-take-le i (eventsOf s lane) (omega (arith, h, length-events s (sized s p) lane)))
+      let bs = take i (barsOf s lane) in
+      omega (arith, c, count-below itself bar bs, count-most (earlier (bar + 1)) bs, length-take-le i (barsOf s lane) (omega (arith, h, length-bars s (sized s p) lane)))
 
   -- there is no event i
-  pub before-last : (lane : Lane) (bar i : ℕ) → countIn s lane ≤ i → i ≡ count (earlier bar) (take i (eventsOf s lane)) → i ≡ count (earlier bar) (eventsOf s lane)
-  before-last lane bar i h c = c ∙ ap (count (earlier bar)) (take-all i (eventsOf s lane) (omega (arith, length-events s (sized s p) lane)))
+  pub before-last : (lane : Lane) (bar i : ℕ) → countIn s lane ≤ i → i ≡ count (earlier bar) (take i (barsOf s lane)) → i ≡ count (earlier bar) (barsOf s lane)
+  before-last lane bar i h c = c ∙ ap (count (earlier bar)) (take-all i (barsOf s lane) (omega (arith, length-bars s (sized s p) lane)))
 
   -- the run of a bar's events is what was drawn for it
-  pub run-drawn : (lane : Lane) (on : Bool) (bar : ℕ) → runOf (runIn s lane on bar) (eventsOf s lane) ≡ shown on (drawnFor bar (eventsOf s lane))
+  pub run-drawn : (edition : Edition) (lane : Lane) (on : Bool) (bar : ℕ) → runOf (runIn s lane on bar) (eventsOf edition s lane) ≡ shown on (drawnFor bar (eventsOf edition s lane))
   unfolding runIn
-  run-drawn lane true bar = run-of-key barIn bar (eventsOf s lane) (bars-sorted lane)
-  run-drawn lane false bar = refl
+  run-drawn edition lane true bar =
+      rw (count-bars edition s lane bar, count-bars edition s lane (bar + 1)) (run-of-key barIn bar (eventsOf edition s lane) (events-sorted edition lane))
+  run-drawn edition lane false bar = refl
 
   pub run-within : (lane : Lane) (on : Bool) (bar : ℕ) → InLane s lane (runIn s lane on bar)
   unfolding runIn
   run-within lane true bar =
-      let es = eventsOf s lane in
-      (omega (arith, count-below barIn bar es), omega (arith, count-most (earlier (bar + 1)) es, length-events s (sized s p) lane))
+      let bs = barsOf s lane in
+      (omega (arith, count-below itself bar bs), omega (arith, count-most (earlier (bar + 1)) bs, length-bars s (sized s p) lane))
   run-within lane false bar = (omega arith, omega arith)
 
-  pub run-length : (lane : Lane) (on : Bool) (bar : ℕ) → runIn s lane on bar .to - runIn s lane on bar .from ≡ length (shown on (drawnFor bar (eventsOf s lane)))
+  pub run-length : (edition : Edition) (lane : Lane) (on : Bool) (bar : ℕ) → runIn s lane on bar .to - runIn s lane on bar .from ≡ length (shown on (drawnFor bar (eventsOf edition s lane)))
   unfolding runIn
-  run-length lane true bar =
-      let es = eventsOf s lane in
-      omega (arith, count-below barIn bar es, count-filter (λ e. eqb (barIn e) bar) es)
-  run-length lane false bar = refl
+  run-length edition lane true bar =
+      let es = eventsOf edition s lane in
+      omega (arith, count-bars edition s lane bar, count-bars edition s lane (bar + 1), count-below barIn bar es, count-filter (λ e. eqb (barIn e) bar) es)
+  run-length edition lane false bar = refl
 
 -- ---- what a bar shows
 -- how many events it has
@@ -189,7 +240,8 @@ shown-most true xs m h = h
 shown-most false xs m h = omega arith
 
 -- and how many bytes
-pub shown-size : (s : Score) (lane : Lane) (on : Bool) (v : ℕ) → length (joined (shown on (drawnFor v (eventsOf s lane)))) ≡ barSize s lane on v
+pub shown-size : (s : Score) (lane : Lane) (on : Bool) (v : ℕ) → length (joined (shown on (drawnFor v (eventsOf Edition.Two s lane)))) ≡ barSize s lane on v
 shown-size s lane on v =
-    length-joined (widthOf lane) (shown on (drawnFor v (eventsOf s lane)))
-    (all-shown (λ e. length e ≡ widthOf lane) on (drawnFor v (eventsOf s lane)) (all-kept (λ e. eqb (barIn e) v) (λ e. length e ≡ widthOf lane) (eventsOf s lane) (widths s lane)))
+    let es = eventsOf Edition.Two s lane in
+    length-joined (widthOf Edition.Two lane) (shown on (drawnFor v es))
+    (all-shown (λ e. length e ≡ widthOf Edition.Two lane) on (drawnFor v es) (all-kept (λ e. eqb (barIn e) v) (λ e. length e ≡ widthOf Edition.Two lane) es (widths Edition.Two s lane)))

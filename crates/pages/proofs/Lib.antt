@@ -8,6 +8,7 @@ pub mod LaneLaws
 pub mod PageLaws
 pub mod ReadLaws
 pub mod ReplyLaws
+pub mod RolesLaws
 pub mod ScoreLaws
 pub mod SheetLaws
 pub mod WritableLaws

@@ -1,4 +1,4 @@
--- How long a page is, and that it has at most 663 bytes, since no bar of a lane has more events than its stage can
+-- How long a page is, and that it has at most 703 bytes, since no bar of a lane has more events than its stage can
 -- draw, and none more than one early hit. Assumes nothing.
 use mathlib.Core.Path.{_≡_, refl, ap, _∙_}
 use mathlib.Core.Bool.{Bool, true, false, cond}
@@ -36,16 +36,18 @@ use Rattle.composer.proofs.form.SongLaws.{arranged-sound}
 use Rattle.pages.specs.Answer.{Writes, Declines, bytesOf}
 use Rattle.pages.specs.Bar.{shown}
 use Rattle.pages.specs.Bytes.{field}
+use Rattle.pages.specs.Edition.{editionField, pageMost}
 use Rattle.pages.specs.Hits.{pageHits, hitsField}
 use Rattle.pages.specs.Inner.Hits.{heardRunsOf}
 use Rattle.pages.specs.Lane.{tagOf, widthOf, noteBytes, eventsOf, runOf, InLane, Held, runSize, drawnFor, runIn}
 use Rattle.pages.specs.Page.{Chorded, chordField, barField, pageBytes, chordSize, barSize, pageSize, runsIn, runsSize, pageBy, pageOf, pageAsked}
 use Rattle.pages.specs.declared.hits.HeardRuns.{HeardRuns}
+use Rattle.pages.specs.declared.edition.Edition.{Edition}
 use Rattle.pages.specs.declared.lane.Lane.{Lane}
 use Rattle.pages.specs.declared.lane.Run.{Run}
 use Rattle.pages.specs.declared.page.Runs.{Runs}
 use Rattle.pages.proofs.AnswerLaws.{asked-most}
-use Rattle.pages.proofs.BytesLaws.{length-field}
+use Rattle.pages.proofs.BytesLaws.{length-field, edition-length}
 use Rattle.pages.proofs.HitsLaws.{hits-length, page-hits-most}
 use Rattle.pages.proofs.WritableLaws.{sized}
 use Rattle.pages.proofs.LaneLaws.{note-bar, count-small, run-drawn, run-within, run-length, drawn-count, shown-most, shown-size}
@@ -59,8 +61,8 @@ chord-length s p true bar h = omega (arith, length-field 0x03 (getD (notesOf (s 
 chord-length s p false bar h = length-field 0x03 []
 
 module _ (s : Score) (lane : Lane) where
-  bar-length : (on : Bool) (bar tag : ℕ) → length (field tag (joined (shown on (drawnFor bar (eventsOf s lane))))) ≡ 3 + barSize s lane on bar
-  bar-length on bar tag = length-field tag (joined (shown on (drawnFor bar (eventsOf s lane)))) ∙ ap (λ (n : ℕ). 3 + n) (shown-size s lane on bar)
+  bar-length : (on : Bool) (bar tag : ℕ) → length (field tag (joined (shown on (drawnFor bar (eventsOf Edition.Two s lane))))) ≡ 3 + barSize s lane on bar
+  bar-length on bar tag = length-field tag (joined (shown on (drawnFor bar (eventsOf Edition.Two s lane)))) ∙ ap (λ (n : ℕ). 3 + n) (shown-size s lane on bar)
 
 -- the length of a page, by the counts of its events
 pub page-length : (s : Score) → Chorded s → (p : Plays) (bar : ℕ) (hs : List Hit) → bar < 8 → length (pageBytes s p bar hs) ≡ pageSize s p bar (length hs)
@@ -70,9 +72,12 @@ page-length s q p bar hs h =
     let hits = hitsField hs in
     let keys = barField s Lane.Keys (p .keys) bar in
     let lead = barField s Lane.Lead (p .keys) bar in
+    let chord = chordField s (p .pad) bar in
     omega (
       arith,
-      length-append (chordField s (p .pad) bar) (lead ++ (keys ++ (hits ++ bass))),
+      length-append (editionField Edition.Two) (chord ++ (lead ++ (keys ++ (hits ++ bass)))),
+      edition-length Edition.Two,
+      length-append chord (lead ++ (keys ++ (hits ++ bass))),
       length-append lead (keys ++ (hits ++ bass)),
       length-append keys (hits ++ bass),
       length-append hits bass,
@@ -91,9 +96,9 @@ module _ (s : Score) (promise : LanesPromise s) where
   pub runs-size : (p : Plays) (bar hits : ℕ) → runsSize (p .pad) (runsIn s p bar) hits ≡ pageSize s p bar hits
   runs-size p bar hits =
       rw (
-        run-length s promise Lane.Lead (p .keys) bar,
-        run-length s promise Lane.Keys (p .keys) bar,
-        run-length s promise Lane.Bass (p .bass) bar,
+        run-length s promise Edition.Two Lane.Lead (p .keys) bar,
+        run-length s promise Edition.Two Lane.Keys (p .keys) bar,
+        run-length s promise Edition.Two Lane.Bass (p .bass) bar,
       )
 
   -- what the runs of song bar b have in all is the page's size
@@ -103,29 +108,29 @@ module _ (s : Score) (promise : LanesPromise s) where
 
   -- a run that is the bar's: within its lane, and as many bytes
   pub run-fits : (lane : Lane) (on : Bool) (bar : ℕ) (run : Run) → run ≡ runIn s lane on bar → InLane s lane run × (runSize lane run ≡ barSize s lane on bar)
-  run-fits lane on bar run e = rw (e, run-length s promise lane on bar) (run-within s promise lane on bar, refl)
+  run-fits lane on bar run e = rw (e, run-length s promise Edition.Two lane on bar) (run-within s promise lane on bar, refl)
 
   -- and the bar's field
   pub run-wrote : {b b′ : List ℕ} {at r : ℕ} (lane : Lane) (on : Bool) (bar : ℕ) (run : Run) → run ≡ runIn s lane on bar
-      → Wrote b b′ at r (3 + runSize lane run) (field (tagOf lane) (joined (runOf run (eventsOf s lane)))) → Wrote b b′ at r (3 + barSize s lane on bar) (barField s lane on bar)
+      → Wrote b b′ at r (3 + runSize lane run) (field (tagOf lane) (joined (runOf run (eventsOf Edition.Two s lane)))) → Wrote b b′ at r (3 + barSize s lane on bar) (barField s lane on bar)
   run-wrote lane on bar run e =
       wrote-as
-      (ap (λ (x : Run). 3 + runSize lane x) e ∙ ap (λ (n : ℕ). 3 + widthOf lane * n) (run-length s promise lane on bar))
-      (ap (λ (x : Run). field (tagOf lane) (joined (runOf x (eventsOf s lane)))) e ∙ ap (λ (l : List (List ℕ)). field (tagOf lane) (joined l)) (run-drawn s promise lane on bar))
+      (ap (λ (x : Run). 3 + runSize lane x) e ∙ ap (λ (n : ℕ). 3 + widthOf Edition.Two lane * n) (run-length s promise Edition.Two lane on bar))
+      (ap (λ (x : Run). field (tagOf lane) (joined (runOf x (eventsOf Edition.Two s lane)))) e ∙ ap (λ (l : List (List ℕ)). field (tagOf lane) (joined l)) (run-drawn s promise Edition.Two lane on bar))
 
 -- ---- at most
 chord-most : (on : Bool) → chordSize on ≤ 4
 chord-most true = omega arith
 chord-most false = omega arith
 
-bars-most : (s : Score) (p : Plays) (bar hits : ℕ) → BarsPromise s → hits ≤ 14 → pageSize s p bar hits ≤ 663
+bars-most : (s : Score) (p : Plays) (bar hits : ℕ) → BarsPromise s → hits ≤ 14 → pageSize s p bar hits ≤ pageMost
 bars-most s p bar hits each few =
     omega (
       arith,
       chord-most (p .pad),
-      shown-most (p .keys) (drawnFor bar (eventsOf s Lane.Lead)) 7 (omega (arith, drawn-count noteBar noteBytes note-bar (take (s .«lead_count») (s .lead)) bar, each .lead bar)),
-      shown-most (p .keys) (drawnFor bar (eventsOf s Lane.Keys)) 16 (omega (arith, drawn-count noteBar noteBytes note-bar (take (s .«keys_count») (s .keys)) bar, each .keys bar)),
-      shown-most (p .bass) (drawnFor bar (eventsOf s Lane.Bass)) 13 (omega (arith, drawn-count noteBar noteBytes note-bar (take (s .«bass_count») (s .bass)) bar, each .bass bar)),
+      shown-most (p .keys) (drawnFor bar (eventsOf Edition.Two s Lane.Lead)) 7 (omega (arith, drawn-count noteBar (noteBytes Edition.Two) (note-bar Edition.Two) (take (s .«lead_count») (s .lead)) bar, each .lead bar)),
+      shown-most (p .keys) (drawnFor bar (eventsOf Edition.Two s Lane.Keys)) 16 (omega (arith, drawn-count noteBar (noteBytes Edition.Two) (note-bar Edition.Two) (take (s .«keys_count») (s .keys)) bar, each .keys bar)),
+      shown-most (p .bass) (drawnFor bar (eventsOf Edition.Two s Lane.Bass)) 13 (omega (arith, drawn-count noteBar (noteBytes Edition.Two) (note-bar Edition.Two) (take (s .«bass_count») (s .bass)) bar, each .bass bar)),
     )
 
 -- ---- of every style's number, seed and bar; a refusal writes nothing
@@ -133,19 +138,19 @@ by-most : (a : PlaysAnswer) (s : Score) (bar : ℕ) (hits : List Hit) (m : ℕ) 
 by-most (PlaysAnswer.Found p) s bar hits m h = h p
 by-most (PlaysAnswer.Refused r) s bar hits m h = omega arith
 
-song-most : (style : Style) (seed b : ℕ) → length (bytesOf (pageOf (composedOf style seed .score) (arrangeOf seed) b)) ≤ 663
+song-most : (style : Style) (seed b : ℕ) → length (bytesOf (pageOf (composedOf style seed .score) (arrangeOf seed) b)) ≤ pageMost
 song-most style seed b =
     let s = composedOf style seed .score in
     let bar = loopBarOf (arrangeOf seed) b in
     let hits = pageHits s (arrangeOf seed) b in
     let song = song-promise style seed .score in
-    by-most (playsOf (arrangeOf seed) b) s bar hits 663
+    by-most (playsOf (arrangeOf seed) b) s bar hits pageMost
     (λ p. omega (arith, page-length s (song .range .chord-size) p bar hits (omega arith), bars-most s p bar (length hits) (song .bars) (page-hits-most s (song .bars) (song .early) (arrangeOf seed) b)))
 
-pub page-most : (style seed b : ℕ) → length (bytesOf (pageAsked style seed b)) ≤ 663
+pub page-most : (style seed b : ℕ) → length (bytesOf (pageAsked style seed b)) ≤ pageMost
 unfolding pageAsked
-page-most zero seed b = asked-most (composedOf Style.Hiphop seed .outcome) (pageOf (composedOf Style.Hiphop seed .score) (arrangeOf seed) b) 663 (song-most Style.Hiphop seed b)
-page-most (suc zero) seed b = asked-most (composedOf Style.Sleep seed .outcome) (pageOf (composedOf Style.Sleep seed .score) (arrangeOf seed) b) 663 (song-most Style.Sleep seed b)
+page-most zero seed b = asked-most (composedOf Style.Hiphop seed .outcome) (pageOf (composedOf Style.Hiphop seed .score) (arrangeOf seed) b) pageMost (song-most Style.Hiphop seed b)
+page-most (suc zero) seed b = asked-most (composedOf Style.Sleep seed .outcome) (pageOf (composedOf Style.Sleep seed .score) (arrangeOf seed) b) pageMost (song-most Style.Sleep seed b)
 page-most (suc (suc n)) seed b = omega arith
 
 -- ---- which bars have a page

@@ -1,5 +1,5 @@
--- Demand 3: one claim about all pages of a song, in the words of document 01, with hits as document 02 has them.
--- Definitions only.
+-- Demand 3: one claim about all pages of a song, in the words of document 01, with hits as document 02 has them; sheet
+-- and pages are of edition 2. Definitions only.
 use mathlib.Core.Path.{_≡_}
 use mathlib.Core.Bool.{Bool, true, cond}
 use mathlib.Core.List.{List, [], _++_}
@@ -19,8 +19,10 @@ use Rattle.composer.specs.declared.chord.Chord.{Chord}
 use Rattle.composer.specs.declared.compose.Composed.{Composed}
 use Rattle.composer.specs.declared.style.Style.{Style}
 use Rattle.pages.specs.Answer.{bytesOf, CallAnswers}
+use Rattle.pages.specs.Edition.{noteWidth, sheetFields, pageFields}
 use Rattle.pages.specs.Page.{pageAsked}
 use Rattle.pages.specs.Sheet.{sheetAsked}
+use Rattle.pages.specs.declared.edition.Edition.{Edition}
 
 -- ---- reading a page
 -- the body of the first field with this tag among the first n fields
@@ -30,22 +32,23 @@ bodyIn (suc n) tag bytes =
     let size = getD bytes 1 0 * 256 + getD bytes 2 0 in
     cond (eqb (getD bytes 0 0) tag) (take size (drop 3 bytes)) (bodyIn n tag (drop (3 + size) bytes))
 
--- a page has five fields
+-- a page has six fields
 abbrev pub bodyOf : ℕ → List ℕ → List ℕ
-bodyOf tag page = bodyIn 5 tag page
+bodyOf tag page = bodyIn pageFields tag page
 
 -- a page has chord or bass where its 0x03 or 0x08 is longer than 0
 abbrev pub has : ℕ → List ℕ → Bool
 has tag page = ltb 0 (length (bodyOf tag page))
 
--- the MIDI numbers of a page's lead or bass: each note has 14 bytes, and after bar and time comes its number
+-- the MIDI numbers of a page's lead or bass: each note has 15 bytes, and after bar and time comes its number
 abbrev pub IsNote : ℕ → List ℕ → ℕ → Type 0
-IsNote tag page midi = (i : ℕ) × (14 * i < length (bodyOf tag page)) × (getD (bodyOf tag page) (14 * i + 5) 0 ≡ midi)
+IsNote tag page midi =
+    (i : ℕ) × (noteWidth Edition.Two * i < length (bodyOf tag page)) × (getD (bodyOf tag page) (noteWidth Edition.Two * i + 5) 0 ≡ midi)
 
 -- ---- reading a sheet
--- 0x0A, a byte for each song bar; a sheet has ten fields
+-- 0x0A, a byte for each song bar; a sheet has eleven fields
 abbrev pub playsIn : List ℕ → List ℕ
-playsIn sheet = bodyIn 10 0x0a sheet
+playsIn sheet = bodyIn (sheetFields Edition.Two) 0x0a sheet
 
 -- bit 2 of song bar b's byte
 abbrev pub drumBit : List ℕ → ℕ → Bool
@@ -96,7 +99,7 @@ pub record Demand3 (style : Style) (seed : ℕ) : Type 0 where
   pub entries : (5 ≤ songOf style seed .scale .n) × (songOf style seed .scale .n ≤ 6) × (length (songOf style seed .scale .pcs) ≡ 6)
   pub chord-count : length (songOf style seed .score .«bar_chords») ≡ 8
   pub chords : (bar : ℕ) → bar < 8 → RootPosition (chordAt style seed bar)
-  pub whole : (b : ℕ) → b < arrangeOf seed .bars → (length (bodyOf 0x05 (pageAt style seed b)) % 14 ≡ 0) × (length (bodyOf 0x08 (pageAt style seed b)) % 14 ≡ 0)
+  pub whole : (b : ℕ) → b < arrangeOf seed .bars → (length (bodyOf 0x05 (pageAt style seed b)) % noteWidth Edition.Two ≡ 0) × (length (bodyOf 0x08 (pageAt style seed b)) % noteWidth Edition.Two ≡ 0)
   -- a page that has 0x03 has the notes of its loop bar's chord there; one that has bass has it; and the first eight
   -- pages of the body have the eight chords: so a marker finds on pages what bass notes are compared with
   pub chord : (b : ℕ) → b < arrangeOf seed .bars → has 0x03 (pageAt style seed b) ≡ true → bodyOf 0x03 (pageAt style seed b) ≡ chordAt style seed (loopBarOf (arrangeOf seed) b) .notes

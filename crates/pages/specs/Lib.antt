@@ -2,11 +2,13 @@ pub mod Answer
 pub mod Bar
 pub mod Bytes
 pub mod Demand3
+pub mod Edition
 pub mod Heard
 pub mod Hits
 pub mod Inner
 pub mod Lane
 pub mod Page
 pub mod Reply
+pub mod Roles
 pub mod Sheet
 pub mod Writable

@@ -1,4 +1,4 @@
--- The bar page: what one bar of the song shows. Definitions only.
+-- The bar page: what one bar of the song shows, in edition 2. Definitions only.
 use mathlib.Core.Path.{_≡_}
 use mathlib.Core.Bool.{Bool, cond}
 use mathlib.Core.List.{List, [], _++_}
@@ -19,8 +19,10 @@ use Rattle.composer.specs.declared.score.Score.{Score}
 use Rattle.pages.specs.Answer.{Asked, Writes, Declines, askedBy}
 use Rattle.pages.specs.Bar.{shown}
 use Rattle.pages.specs.Bytes.{field}
+use Rattle.pages.specs.Edition.{editionField, editionSize}
 use Rattle.pages.specs.Hits.{pageHits, hitsField}
 use Rattle.pages.specs.Lane.{tagOf, widthOf, eventsOf, runSize, drawnFor, runIn}
+use Rattle.pages.specs.declared.edition.Edition.{Edition}
 use Rattle.pages.specs.declared.lane.Lane.{Lane}
 use Rattle.pages.specs.declared.page.Runs.{Runs}
 
@@ -34,28 +36,29 @@ chordField s on bar = field 0x03 (shown on (getD (notesOf (s .«bar_chords»)) b
 
 -- a lane's notes drawn for that loop bar
 abbrev pub barField : Score → Lane → Bool → ℕ → List ℕ
-barField s lane on bar = field (tagOf lane) (joined (shown on (drawnFor bar (eventsOf s lane))))
+barField s lane on bar = field (tagOf lane) (joined (shown on (drawnFor bar (eventsOf Edition.Two s lane))))
 
 -- lead and keys both follow the keys' layer; the hits are given, as they are not of that bar alone
 unfoldable pub pageBytes : Score → Plays → ℕ → List Hit → List ℕ
 pageBytes s p bar hits =
-    chordField s (p .pad) bar
+    editionField Edition.Two
+    ++ (chordField s (p .pad) bar
     ++ (barField s Lane.Lead (p .keys) bar
     ++ (barField s Lane.Keys (p .keys) bar
     ++ (hitsField hits
-    ++ barField s Lane.Bass (p .bass) bar)))
+    ++ barField s Lane.Bass (p .bass) bar))))
 
 -- ---- its length
 abbrev pub chordSize : Bool → ℕ
 chordSize on = cond on 4 0
 
 abbrev pub barSize : Score → Lane → Bool → ℕ → ℕ
-barSize s lane on bar = widthOf lane * length (shown on (drawnFor bar (eventsOf s lane)))
+barSize s lane on bar = widthOf Edition.Two lane * length (shown on (drawnFor bar (eventsOf Edition.Two s lane)))
 
 -- with so many hits
 abbrev pub pageSize : Score → Plays → ℕ → ℕ → ℕ
 pageSize s p bar hits =
-    15 + chordSize (p .pad) + barSize s Lane.Lead (p .keys) bar + barSize s Lane.Keys (p .keys) bar
+    editionSize Edition.Two + 15 + chordSize (p .pad) + barSize s Lane.Lead (p .keys) bar + barSize s Lane.Keys (p .keys) bar
     + 10 * hits + barSize s Lane.Bass (p .bass) bar
 
 -- ---- the same by the runs of its notes
@@ -68,7 +71,7 @@ runsIn s p bar = record {
 
 abbrev pub runsSize : Bool → Runs → ℕ → ℕ
 runsSize pad runs hits =
-    15 + chordSize pad + runSize Lane.Lead (runs .lead) + runSize Lane.Keys (runs .keys)
+    editionSize Edition.Two + 15 + chordSize pad + runSize Lane.Lead (runs .lead) + runSize Lane.Keys (runs .keys)
     + 10 * hits + runSize Lane.Bass (runs .bass)
 
 -- a look-up that is refused is passed on

@@ -1,4 +1,4 @@
--- The sheet: a whole song in ten fields. Definitions only.
+-- The sheet: a whole song in ten fields, and before them the edition's. Definitions only.
 use mathlib.Core.Bool.{cond}
 use mathlib.Core.List.{List, [], _∷_, _++_, map}
 use Prim.Native.Nat.{ℕ, _+_, _*_}
@@ -18,7 +18,9 @@ use Rattle.composer.specs.declared.harmony.Scale.{Scale}
 use Rattle.composer.specs.declared.score.Score.{Score}
 use Rattle.pages.specs.Answer.{Asked, Writes, askedBy}
 use Rattle.pages.specs.Bytes.{be64, f32Bytes, field}
-use Rattle.pages.specs.Lane.{tagOf, eventsOf}
+use Rattle.pages.specs.Edition.{editionField, editionSize}
+use Rattle.pages.specs.Lane.{tagOf, laneSize, eventsOf}
+use Rattle.pages.specs.declared.edition.Edition.{Edition}
 use Rattle.pages.specs.declared.lane.Lane.{Lane}
 
 -- ---- before the events
@@ -42,11 +44,11 @@ unfoldable pub songBytes : ℕ → Score → Scale → List ℕ
 songBytes seed s scale = nameField seed s ++ (tempoField s ++ (chordsField s ++ scaleField scale))
 
 -- ---- the events: 0x05 lead, 0x06 keys, 0x07 hits, 0x08 bass
-abbrev pub laneField : Score → Lane → List ℕ
-laneField s lane = field (tagOf lane) (joined (eventsOf s lane))
+abbrev pub laneField : Edition → Score → Lane → List ℕ
+laneField edition s lane = field (tagOf lane) (joined (eventsOf edition s lane))
 
-unfoldable pub lanesBytes : Score → List ℕ
-lanesBytes s = laneField s Lane.Lead ++ (laneField s Lane.Keys ++ (laneField s Lane.Hits ++ laneField s Lane.Bass))
+unfoldable pub lanesBytes : Edition → Score → List ℕ
+lanesBytes edition s = laneField edition s Lane.Lead ++ (laneField edition s Lane.Keys ++ (laneField edition s Lane.Hits ++ laneField edition s Lane.Bass))
 
 -- ---- the form
 -- intro ending and bars, phrases, outro ending and bars, dip
@@ -65,18 +67,23 @@ unfoldable pub formBytes : Form → List ℕ
 formBytes f = endsField f ++ playsField f
 
 -- ---- the whole
-unfoldable pub sheetBytes : ℕ → Score → Scale → Form → List ℕ
-sheetBytes seed s scale f = songBytes seed s scale ++ (lanesBytes s ++ formBytes f)
+unfoldable pub sheetBytes : Edition → ℕ → Score → Scale → Form → List ℕ
+sheetBytes edition seed s scale f = editionField edition ++ (songBytes seed s scale ++ (lanesBytes edition s ++ formBytes f))
 
 -- its length by the counts
-abbrev pub sheetSize : Score → Scale → Form → ℕ
-sheetSize s scale f = 82 + scale .n + 14 * (s .«lead_count» + s .«keys_count» + s .«bass_count») + 10 * s .«hit_count» + f .bars
+abbrev pub sheetSize : Edition → Score → Scale → Form → ℕ
+sheetSize edition s scale f =
+    editionSize edition + 82 + scale .n + laneSize edition s Lane.Lead + laneSize edition s Lane.Keys + laneSize edition s Lane.Hits + laneSize edition s Lane.Bass + f .bars
 
-abbrev pub lanesSize : Score → ℕ
-lanesSize s = 12 + 14 * (s .«lead_count» + s .«keys_count» + s .«bass_count») + 10 * s .«hit_count»
+abbrev pub lanesSize : Edition → Score → ℕ
+lanesSize edition s = 12 + laneSize edition s Lane.Lead + laneSize edition s Lane.Keys + laneSize edition s Lane.Hits + laneSize edition s Lane.Bass
 
--- what a sheet of a style and a seed has to write
-unfoldable pub sheetAsked : ℕ → ℕ → Asked
-sheetAsked style seed =
+-- what a sheet of a style and a seed has to write in an edition
+unfoldable pub sheetIn : Edition → ℕ → ℕ → Asked
+sheetIn edition style seed =
     let song = composeOf style seed in
-    askedBy (song .outcome) (Writes (sheetBytes seed (song .score) (song .scale) (arrangeOf seed)))
+    askedBy (song .outcome) (Writes (sheetBytes edition seed (song .score) (song .scale) (arrangeOf seed)))
+
+-- sheets are asked for in edition 2
+abbrev pub sheetAsked : ℕ → ℕ → Asked
+sheetAsked style seed = sheetIn Edition.Two style seed

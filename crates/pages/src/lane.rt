@@ -1,14 +1,18 @@
-// A score's lanes in bytes: a note is bar, time, pitch, velocity, duration; a hit is bar, kind, time, gain.
+// A score's lanes in bytes: a note is bar, time, pitch, velocity, duration, and in edition 2 its role; a hit is bar,
+// kind, time, gain.
+ghost use mathlib.Core.List.{map};
 ghost use mathlib.Core.Path.{_≡_};
 ghost use Prim.Native.Nat.{_+_, _-_, _*_, _<_, _≤_};
-ghost use lib.ListN.{length};
+ghost use lib.ListN.{length, take};
 ghost use Rattle.laws.specs.Lists.{joined};
 ghost use Rattle.laws.specs.Writes.{Wrote};
 ghost use Rattle.composer.specs.Promise.{LanesPromise};
 ghost use Rattle.pages.specs.Bytes.{field};
-ghost use Rattle.pages.specs.Lane.{tagOf, widthOf, countIn, noteBytes, hitBytes, eventsOf, runOf, InLane, barRun, runIn};
+ghost use Rattle.pages.specs.Edition.{noteWidth};
+ghost use Rattle.pages.specs.Lane.{tagOf, widthOf, countIn, soundBytes, noteBytes, hitBytes, eventsOf, runOf, InLane, barsOf, barRun, runIn};
 ghost use Rattle.pages.specs.Writable.{FiniteNote, FiniteHit, Writable};
 ghost use Rattle.pages.specs.declared.lane.Lane.{Lane};
+use crate::edition::Edition;
 use crate::put::put_f32;
 use crate::put::put_head;
 use crate::put::put_u8;
@@ -42,15 +46,16 @@ impl Lane {
         }
     }
 
-    // The bytes of one event.
-    pub fn width(self) -> usize
-        ensures { λ r. ⌜ r ≡ widthOf self ⌝ }
+    // The bytes of one event in an edition.
+    pub fn width(self, edition: Edition) -> usize
+        ensures { λ r. ⌜ r ≡ widthOf edition self ⌝ }
     {
+        let note = edition.note_width();
         match self {
-            Lane::Lead => 14,
-            Lane::Keys => 14,
+            Lane::Lead => note,
+            Lane::Keys => note,
             Lane::Hits => 10,
-            Lane::Bass => 14,
+            Lane::Bass => note,
         }
     }
 
@@ -67,16 +72,34 @@ impl Lane {
     }
 }
 
-fn put_note(buf: &mut [u8], at: usize, n: Note) -> usize
+// What both editions tell of a note.
+fn put_sound(buf: &mut [u8], at: usize, n: Note) -> usize
     requires { ⌜ FiniteNote n ⌝ }
     requires { ⌜ at + 14 ≤ length (now buf) ⌝ }
-    ensures { λ r. ⌜ Wrote (now (buf .entry)) (now (buf .exit)) at r 14 (noteBytes n) ⌝ }
+    ensures { λ r. ⌜ Wrote (now (buf .entry)) (now (buf .exit)) at r 14 (soundBytes n) ⌝ }
 {
     let a = put_u8(buf, at, n.bar);
     let b = put_f32(buf, a, n.at);
     let c = put_u8(buf, b, n.midi);
     let d = put_f32(buf, c, n.vel);
     put_f32(buf, d, n.dur)
+}
+
+// A note in an edition.
+fn put_note(buf: &mut [u8], at: usize, edition: Edition, n: Note) -> usize
+    requires { ⌜ FiniteNote n ⌝ }
+    requires { ⌜ at + noteWidth edition ≤ length (now buf) ⌝ }
+    ensures { λ r. ⌜ Wrote (now (buf .entry)) (now (buf .exit)) at r (noteWidth edition) (noteBytes edition n) ⌝ }
+{
+    match edition {
+        Edition::One => put_sound(buf, at, n),
+        Edition::Two => {
+            let role = n.role;
+            let number = role.number();
+            let a = put_sound(buf, at, n);
+            put_u8(buf, a, number)
+        }
+    }
 }
 
 pub(crate) fn put_hit(buf: &mut [u8], at: usize, h: Hit) -> usize
@@ -93,36 +116,36 @@ pub(crate) fn put_hit(buf: &mut [u8], at: usize, h: Hit) -> usize
 }
 
 // The lead's notes from `run.from` on, before `run.to`.
-fn put_lead(buf: &mut [u8], at: usize, s: Score, run: Run) -> usize
+fn put_lead(buf: &mut [u8], at: usize, edition: Edition, s: Score, run: Run) -> usize
     requires { ⌜ Writable s ⌝ }
     requires { ⌜ InLane s Lane.Lead run ⌝ }
-    requires { ⌜ at + 14 * (run .to - run .from) ≤ length (now buf) ⌝ }
-    ensures { λ r. ⌜ Wrote (now (buf .entry)) (now (buf .exit)) at r (14 * (run .to - run .from)) (joined (runOf run (eventsOf s Lane.Lead))) ⌝ }
+    requires { ⌜ at + noteWidth edition * (run .to - run .from) ≤ length (now buf) ⌝ }
+    ensures { λ r. ⌜ Wrote (now (buf .entry)) (now (buf .exit)) at r (noteWidth edition * (run .to - run .from)) (joined (runOf run (eventsOf edition s Lane.Lead))) ⌝ }
 {
     let lead = s.lead;
     let mut o = at;
     let mut i = run.from;
     while i < run.to {
         let note = lead[i];
-        o = put_note(buf, o, note);
+        o = put_note(buf, o, edition, note);
         i += 1;
     }
     o
 }
 
 // The keys' notes from `run.from` on, before `run.to`.
-fn put_keys(buf: &mut [u8], at: usize, s: Score, run: Run) -> usize
+fn put_keys(buf: &mut [u8], at: usize, edition: Edition, s: Score, run: Run) -> usize
     requires { ⌜ Writable s ⌝ }
     requires { ⌜ InLane s Lane.Keys run ⌝ }
-    requires { ⌜ at + 14 * (run .to - run .from) ≤ length (now buf) ⌝ }
-    ensures { λ r. ⌜ Wrote (now (buf .entry)) (now (buf .exit)) at r (14 * (run .to - run .from)) (joined (runOf run (eventsOf s Lane.Keys))) ⌝ }
+    requires { ⌜ at + noteWidth edition * (run .to - run .from) ≤ length (now buf) ⌝ }
+    ensures { λ r. ⌜ Wrote (now (buf .entry)) (now (buf .exit)) at r (noteWidth edition * (run .to - run .from)) (joined (runOf run (eventsOf edition s Lane.Keys))) ⌝ }
 {
     let keys = s.keys;
     let mut o = at;
     let mut i = run.from;
     while i < run.to {
         let note = keys[i];
-        o = put_note(buf, o, note);
+        o = put_note(buf, o, edition, note);
         i += 1;
     }
     o
@@ -133,7 +156,7 @@ fn put_hits(buf: &mut [u8], at: usize, s: Score, run: Run) -> usize
     requires { ⌜ Writable s ⌝ }
     requires { ⌜ InLane s Lane.Hits run ⌝ }
     requires { ⌜ at + 10 * (run .to - run .from) ≤ length (now buf) ⌝ }
-    ensures { λ r. ⌜ Wrote (now (buf .entry)) (now (buf .exit)) at r (10 * (run .to - run .from)) (joined (runOf run (eventsOf s Lane.Hits))) ⌝ }
+    ensures { λ r. ⌜ Wrote (now (buf .entry)) (now (buf .exit)) at r (10 * (run .to - run .from)) (joined (runOf run (map hitBytes (take (s .«hit_count») (s .hits))))) ⌝ }
 {
     let hits = s.hits;
     let mut o = at;
@@ -147,49 +170,56 @@ fn put_hits(buf: &mut [u8], at: usize, s: Score, run: Run) -> usize
 }
 
 // The bass's notes from `run.from` on, before `run.to`.
-fn put_bass(buf: &mut [u8], at: usize, s: Score, run: Run) -> usize
+fn put_bass(buf: &mut [u8], at: usize, edition: Edition, s: Score, run: Run) -> usize
     requires { ⌜ Writable s ⌝ }
     requires { ⌜ InLane s Lane.Bass run ⌝ }
-    requires { ⌜ at + 14 * (run .to - run .from) ≤ length (now buf) ⌝ }
-    ensures { λ r. ⌜ Wrote (now (buf .entry)) (now (buf .exit)) at r (14 * (run .to - run .from)) (joined (runOf run (eventsOf s Lane.Bass))) ⌝ }
+    requires { ⌜ at + noteWidth edition * (run .to - run .from) ≤ length (now buf) ⌝ }
+    ensures { λ r. ⌜ Wrote (now (buf .entry)) (now (buf .exit)) at r (noteWidth edition * (run .to - run .from)) (joined (runOf run (eventsOf edition s Lane.Bass))) ⌝ }
 {
     let bass = s.bass;
     let mut o = at;
     let mut i = run.from;
     while i < run.to {
         let note = bass[i];
-        o = put_note(buf, o, note);
+        o = put_note(buf, o, edition, note);
         i += 1;
     }
     o
 }
 
 // A run of a lane's events.
-fn put_events(buf: &mut [u8], at: usize, s: Score, lane: Lane, run: Run) -> usize
+fn put_events(buf: &mut [u8], at: usize, edition: Edition, s: Score, lane: Lane, run: Run) -> usize
     requires { ⌜ Writable s ⌝ }
     requires { ⌜ InLane s lane run ⌝ }
-    requires { ⌜ at + widthOf lane * (run .to - run .from) ≤ length (now buf) ⌝ }
-    ensures { λ r. ⌜ Wrote (now (buf .entry)) (now (buf .exit)) at r (widthOf lane * (run .to - run .from)) (joined (runOf run (eventsOf s lane))) ⌝ }
+    requires { ⌜ at + widthOf edition lane * (run .to - run .from) ≤ length (now buf) ⌝ }
+    ensures { λ r. ⌜ Wrote (now (buf .entry)) (now (buf .exit)) at r (widthOf edition lane * (run .to - run .from)) (joined (runOf run (eventsOf edition s lane))) ⌝ }
 {
     match lane {
-        Lane::Lead => put_lead(buf, at, s, run),
-        Lane::Keys => put_keys(buf, at, s, run),
+        Lane::Lead => put_lead(buf, at, edition, s, run),
+        Lane::Keys => put_keys(buf, at, edition, s, run),
         Lane::Hits => put_hits(buf, at, s, run),
-        Lane::Bass => put_bass(buf, at, s, run),
+        Lane::Bass => put_bass(buf, at, edition, s, run),
     }
 }
 
 // A run of a lane's events as the lane's field.
-pub(crate) fn put_run(buf: &mut [u8], at: usize, s: Score, lane: Lane, run: Run) -> usize
+pub(crate) fn put_run(
+    buf: &mut [u8],
+    at: usize,
+    edition: Edition,
+    s: Score,
+    lane: Lane,
+    run: Run,
+) -> usize
     requires { ⌜ Writable s ⌝ }
     requires { ⌜ InLane s lane run ⌝ }
-    requires { ⌜ at + (3 + widthOf lane * (run .to - run .from)) ≤ length (now buf) ⌝ }
-    ensures { λ r. ⌜ Wrote (now (buf .entry)) (now (buf .exit)) at r (3 + widthOf lane * (run .to - run .from)) (field (tagOf lane) (joined (runOf run (eventsOf s lane)))) ⌝ }
+    requires { ⌜ at + (3 + widthOf edition lane * (run .to - run .from)) ≤ length (now buf) ⌝ }
+    ensures { λ r. ⌜ Wrote (now (buf .entry)) (now (buf .exit)) at r (3 + widthOf edition lane * (run .to - run .from)) (field (tagOf lane) (joined (runOf run (eventsOf edition s lane)))) ⌝ }
 {
     let tag = lane.tag();
-    let width = lane.width();
+    let width = lane.width(edition);
     let a = put_head(buf, at, tag, width * (run.to - run.from));
-    put_events(buf, a, s, lane, run)
+    put_events(buf, a, edition, s, lane, run)
 }
 
 // The run of a lane's events that were drawn for a loop bar: bars never fall along a lane, so it begins
@@ -197,7 +227,7 @@ pub(crate) fn put_run(buf: &mut [u8], at: usize, s: Score, lane: Lane, run: Run)
 fn lead_run(s: Score, bar: u8) -> Run
     requires { ⌜ LanesPromise s ⌝ }
     requires { ⌜ bar < 8 ⌝ }
-    ensures { λ r. ⌜ r ≡ barRun bar (eventsOf s Lane.Lead) ⌝ }
+    ensures { λ r. ⌜ r ≡ barRun bar (barsOf s Lane.Lead) ⌝ }
 {
     let lead = s.lead;
     let n = s.lead_count;
@@ -215,7 +245,7 @@ fn lead_run(s: Score, bar: u8) -> Run
 fn keys_run(s: Score, bar: u8) -> Run
     requires { ⌜ LanesPromise s ⌝ }
     requires { ⌜ bar < 8 ⌝ }
-    ensures { λ r. ⌜ r ≡ barRun bar (eventsOf s Lane.Keys) ⌝ }
+    ensures { λ r. ⌜ r ≡ barRun bar (barsOf s Lane.Keys) ⌝ }
 {
     let keys = s.keys;
     let n = s.keys_count;
@@ -233,7 +263,7 @@ fn keys_run(s: Score, bar: u8) -> Run
 fn hits_run(s: Score, bar: u8) -> Run
     requires { ⌜ LanesPromise s ⌝ }
     requires { ⌜ bar < 8 ⌝ }
-    ensures { λ r. ⌜ r ≡ barRun bar (eventsOf s Lane.Hits) ⌝ }
+    ensures { λ r. ⌜ r ≡ barRun bar (barsOf s Lane.Hits) ⌝ }
 {
     let hits = s.hits;
     let n = s.hit_count;
@@ -251,7 +281,7 @@ fn hits_run(s: Score, bar: u8) -> Run
 fn bass_run(s: Score, bar: u8) -> Run
     requires { ⌜ LanesPromise s ⌝ }
     requires { ⌜ bar < 8 ⌝ }
-    ensures { λ r. ⌜ r ≡ barRun bar (eventsOf s Lane.Bass) ⌝ }
+    ensures { λ r. ⌜ r ≡ barRun bar (barsOf s Lane.Bass) ⌝ }
 {
     let bass = s.bass;
     let n = s.bass_count;
@@ -269,7 +299,7 @@ fn bass_run(s: Score, bar: u8) -> Run
 fn bar_run(s: Score, lane: Lane, bar: u8) -> Run
     requires { ⌜ LanesPromise s ⌝ }
     requires { ⌜ bar < 8 ⌝ }
-    ensures { λ r. ⌜ r ≡ barRun bar (eventsOf s lane) ⌝ }
+    ensures { λ r. ⌜ r ≡ barRun bar (barsOf s lane) ⌝ }
 {
     match lane {
         Lane::Lead => lead_run(s, bar),

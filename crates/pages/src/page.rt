@@ -1,4 +1,4 @@
-// The bar page: what one bar of the song shows.
+// The bar page: what one bar of the song shows, in edition 2.
 ghost use mathlib.Core.Path.{_≡_};
 ghost use Prim.Native.Nat.{_+_, _<_, _≤_};
 ghost use lib.ListN.{length};
@@ -12,6 +12,8 @@ ghost use Rattle.pages.specs.Lane.{runSize, Held};
 ghost use Rattle.pages.specs.Page.{Chorded, chordSize, chordField, runsIn, runsSize, pageSize, pageBytes, pageOf, pageAsked};
 ghost use Rattle.pages.specs.Writable.{Paged};
 use crate::answer::Written;
+use crate::edition::Edition;
+use crate::edition::put_edition;
 use crate::hits::HeardRuns;
 use crate::hits::heard_runs;
 use crate::hits::put_page_hits;
@@ -85,7 +87,7 @@ fn run_size(lane: Lane, run: Run) -> usize
     ensures { λ r. ⌜ r ≡ runSize lane run ⌝ }
     ensures { λ r. ⌜ r < 65536 ⌝ }
 {
-    let width = lane.width();
+    let width = lane.width(Edition::Two);
     width * (run.to - run.from)
 }
 
@@ -97,11 +99,13 @@ fn page_size(pad: bool, runs: Runs, hits: usize) -> usize
     let lead = runs.lead;
     let keys = runs.keys;
     let bass = runs.bass;
+    let edition = Edition::Two;
+    let first = edition.field_size();
     let chord_bytes = chord_size(pad);
     let lead_bytes = run_size(Lane::Lead, lead);
     let keys_bytes = run_size(Lane::Keys, keys);
     let bass_bytes = run_size(Lane::Bass, bass);
-    15 + chord_bytes + lead_bytes + keys_bytes + 10 * hits + bass_bytes
+    first + 15 + chord_bytes + lead_bytes + keys_bytes + 10 * hits + bass_bytes
 }
 
 // The page by the runs of one loop bar's notes, and of the hits that are heard in it.
@@ -118,11 +122,12 @@ fn put_page(buf: &mut [u8], s: Score, p: Plays, runs: Runs, hits: HeardRuns, bar
     let lead = runs.lead;
     let keys = runs.keys;
     let bass = runs.bass;
-    let a = put_chord(buf, 0, s, p.pad, bar);
-    let b = put_run(buf, a, s, Lane::Lead, lead);
-    let c = put_run(buf, b, s, Lane::Keys, keys);
+    let z = put_edition(buf, 0, Edition::Two);
+    let a = put_chord(buf, z, s, p.pad, bar);
+    let b = put_run(buf, a, Edition::Two, s, Lane::Lead, lead);
+    let c = put_run(buf, b, Edition::Two, s, Lane::Keys, keys);
     let d = put_page_hits(buf, c, s, hits);
-    put_run(buf, d, s, Lane::Bass, bass)
+    put_run(buf, d, Edition::Two, s, Lane::Bass, bass)
 }
 
 // The page of a song bar, if the buffer is as long as this very page. The layers that play are known, but for the

@@ -1,16 +1,18 @@
-// The sheet: a whole song in ten fields.
+// The sheet: a whole song in ten fields, and before them the edition's.
 ghost use mathlib.Core.Bool.{cond};
 ghost use mathlib.Core.Path.{_≡_};
-ghost use Prim.Native.Nat.{_+_, _*_, _≤_};
+ghost use Prim.Native.Nat.{_+_, _<_, _≤_};
 ghost use lib.ListN.{length};
 ghost use Rattle.laws.specs.Lists.{joined};
 ghost use Rattle.laws.specs.Writes.{Wrote};
 ghost use Rattle.pages.specs.Answer.{Writes, writtenOf, bufferOf};
-ghost use Rattle.pages.specs.Lane.{widthOf, countIn};
+ghost use Rattle.pages.specs.Lane.{laneSize};
 ghost use Rattle.pages.specs.Page.{Chorded};
-ghost use Rattle.pages.specs.Sheet.{nameField, tempoField, chordsField, scaleField, songBytes, laneField, lanesSize, lanesBytes, endsField, playsBytes, playsField, formBytes, sheetSize, sheetBytes, sheetAsked};
+ghost use Rattle.pages.specs.Sheet.{nameField, tempoField, chordsField, scaleField, songBytes, laneField, lanesSize, lanesBytes, endsField, playsBytes, playsField, formBytes, sheetSize, sheetBytes, sheetIn, sheetAsked};
 ghost use Rattle.pages.specs.Writable.{SizedLanes, FiniteEvents, Writable};
 use crate::answer::Written;
+use crate::edition::Edition;
+use crate::edition::put_edition;
 use crate::lane::Lane;
 use crate::lane::Run;
 use crate::lane::put_run;
@@ -105,26 +107,26 @@ fn put_song(buf: &mut [u8], at: usize, seed: u64, s: Score, scale: Scale) -> usi
 }
 
 // A whole lane.
-fn put_lane(buf: &mut [u8], at: usize, s: Score, lane: Lane) -> usize
+fn put_lane(buf: &mut [u8], at: usize, edition: Edition, s: Score, lane: Lane) -> usize
     requires { ⌜ Writable s ⌝ }
-    requires { ⌜ at + (3 + widthOf lane * countIn s lane) ≤ length (now buf) ⌝ }
-    ensures { λ r. ⌜ Wrote (now (buf .entry)) (now (buf .exit)) at r (3 + widthOf lane * countIn s lane) (laneField s lane) ⌝ }
+    requires { ⌜ at + (3 + laneSize edition s lane) ≤ length (now buf) ⌝ }
+    ensures { λ r. ⌜ Wrote (now (buf .entry)) (now (buf .exit)) at r (3 + laneSize edition s lane) (laneField edition s lane) ⌝ }
 {
     let n = lane.count(s);
     let run = Run { from: 0, to: n };
-    put_run(buf, at, s, lane, run)
+    put_run(buf, at, edition, s, lane, run)
 }
 
 // 0x05 to 0x08: the lanes.
-fn put_lanes(buf: &mut [u8], at: usize, s: Score) -> usize
+fn put_lanes(buf: &mut [u8], at: usize, edition: Edition, s: Score) -> usize
     requires { ⌜ Writable s ⌝ }
-    requires { ⌜ at + lanesSize s ≤ length (now buf) ⌝ }
-    ensures { λ r. ⌜ Wrote (now (buf .entry)) (now (buf .exit)) at r (lanesSize s) (lanesBytes s) ⌝ }
+    requires { ⌜ at + lanesSize edition s ≤ length (now buf) ⌝ }
+    ensures { λ r. ⌜ Wrote (now (buf .entry)) (now (buf .exit)) at r (lanesSize edition s) (lanesBytes edition s) ⌝ }
 {
-    let a = put_lane(buf, at, s, Lane::Lead);
-    let b = put_lane(buf, a, s, Lane::Keys);
-    let c = put_lane(buf, b, s, Lane::Hits);
-    put_lane(buf, c, s, Lane::Bass)
+    let a = put_lane(buf, at, edition, s, Lane::Lead);
+    let b = put_lane(buf, a, edition, s, Lane::Keys);
+    let c = put_lane(buf, b, edition, s, Lane::Hits);
+    put_lane(buf, c, edition, s, Lane::Bass)
 }
 
 fn flag(on: bool) -> u8
@@ -196,50 +198,78 @@ fn put_form(buf: &mut [u8], at: usize, f: Form) -> usize
     put_plays(buf, a, f)
 }
 
+// The bytes of a lane's events.
+fn lane_size(edition: Edition, s: Score, lane: Lane) -> usize
+    requires { ⌜ SizedLanes s ⌝ }
+    ensures { λ r. ⌜ r ≡ laneSize edition s lane ⌝ }
+    ensures { λ r. ⌜ r < 65536 ⌝ }
+{
+    let width = lane.width(edition);
+    let n = lane.count(s);
+    width * n
+}
+
 // Its length.
-pub fn sheet_size(s: Score, scale: Scale, f: Form) -> usize
+pub fn sheet_size(edition: Edition, s: Score, scale: Scale, f: Form) -> usize
     requires { ⌜ SizedLanes s ⌝ }
     requires { ⌜ (scale .n ≤ 6) × (f .bars ≤ 64) ⌝ }
-    ensures { λ r. ⌜ r ≡ sheetSize s scale f ⌝ }
+    ensures { λ r. ⌜ r ≡ sheetSize edition s scale f ⌝ }
 {
-    let notes = s.lead_count + s.keys_count + s.bass_count;
-    82 + scale.n + 14 * notes + 10 * s.hit_count + f.bars as usize
+    let first = edition.field_size();
+    let lead = lane_size(edition, s, Lane::Lead);
+    let keys = lane_size(edition, s, Lane::Keys);
+    let hits = lane_size(edition, s, Lane::Hits);
+    let bass = lane_size(edition, s, Lane::Bass);
+    first + 82 + scale.n + lead + keys + hits + bass + f.bars as usize
 }
 
 // A song and its form, from the start of a buffer that is long enough.
-pub fn put_sheet(buf: &mut [u8], seed: u64, s: Score, scale: Scale, f: Form) -> usize
+pub fn put_sheet(
+    buf: &mut [u8],
+    edition: Edition,
+    seed: u64,
+    s: Score,
+    scale: Scale,
+    f: Form,
+) -> usize
     requires { ⌜ Writable s ⌝ }
     requires { ⌜ (scale .n ≤ 6) × (f .bars ≤ 64) ⌝ }
-    requires { ⌜ sheetSize s scale f ≤ length (now buf) ⌝ }
-    ensures { λ r. ⌜ Wrote (now (buf .entry)) (now (buf .exit)) 0 r (sheetSize s scale f) (sheetBytes seed s scale f) ⌝ }
+    requires { ⌜ sheetSize edition s scale f ≤ length (now buf) ⌝ }
+    ensures { λ r. ⌜ Wrote (now (buf .entry)) (now (buf .exit)) 0 r (sheetSize edition s scale f) (sheetBytes edition seed s scale f) ⌝ }
 {
-    let a = put_song(buf, 0, seed, s, scale);
-    let b = put_lanes(buf, a, s);
+    let z = put_edition(buf, 0, edition);
+    let a = put_song(buf, z, seed, s, scale);
+    let b = put_lanes(buf, a, edition, s);
     put_form(buf, b, f)
 }
 
 // The sheet of a song and its form, if the buffer is as long as this very sheet.
-pub fn sheet_into(seed: u64, s: Score, scale: Scale, f: Form, buf: &mut [u8]) -> Written
+pub fn sheet_into(
+    edition: Edition,
+    seed: u64,
+    s: Score,
+    scale: Scale,
+    f: Form,
+    buf: &mut [u8],
+) -> Written
     requires { ⌜ Writable s ⌝ }
     requires { ⌜ Chorded s ⌝ }
     requires { ⌜ (scale .n ≤ 6) × (f .bars ≤ 64) ⌝ }
-    ensures { λ r. ⌜ r ≡ writtenOf (length (now (buf .entry))) (Writes (sheetBytes seed s scale f)) ⌝ }
-    ensures { λ r. ⌜ now (buf .exit) ≡ bufferOf (now (buf .entry)) (Writes (sheetBytes seed s scale f)) ⌝ }
+    ensures { λ r. ⌜ r ≡ writtenOf (length (now (buf .entry))) (Writes (sheetBytes edition seed s scale f)) ⌝ }
+    ensures { λ r. ⌜ now (buf .exit) ≡ bufferOf (now (buf .entry)) (Writes (sheetBytes edition seed s scale f)) ⌝ }
 {
-    let size = sheet_size(s, scale, f);
+    let size = sheet_size(edition, s, scale, f);
     if buf.len() < size {
         return Written::Refused(Refusal::ShortBuffer);
     }
-    let n = put_sheet(buf, seed, s, scale, f);
+    let n = put_sheet(buf, edition, seed, s, scale, f);
     Written::Bytes(n)
 }
 
-// The sheet of a seed's song in style 0 or 1, from the buffer's first byte on, and its length; what lies
-// beyond stays. Any other style is refused with 1, then a buffer that is shorter than this sheet with 2;
-// a refusal writes nothing.
-pub fn sheet(style: u8, seed: u64, buf: &mut [u8]) -> Written
-    ensures { λ r. ⌜ r ≡ writtenOf (length (now (buf .entry))) (sheetAsked style seed) ⌝ }
-    ensures { λ r. ⌜ now (buf .exit) ≡ bufferOf (now (buf .entry)) (sheetAsked style seed) ⌝ }
+// The sheet of a seed's song in an edition, as `sheet` writes it in edition 2.
+pub fn sheet_in(edition: Edition, style: u8, seed: u64, buf: &mut [u8]) -> Written
+    ensures { λ r. ⌜ r ≡ writtenOf (length (now (buf .entry))) (sheetIn edition style seed) ⌝ }
+    ensures { λ r. ⌜ now (buf .exit) ≡ bufferOf (now (buf .entry)) (sheetIn edition style seed) ⌝ }
 {
     let song = compose(style, seed);
     let outcome = song.outcome;
@@ -249,7 +279,17 @@ pub fn sheet(style: u8, seed: u64, buf: &mut [u8]) -> Written
             let score = song.score;
             let scale = song.scale;
             let form = arrange(seed);
-            sheet_into(seed, score, scale, form, buf)
+            sheet_into(edition, seed, score, scale, form, buf)
         }
     }
+}
+
+// The sheet of a seed's song in style 0 or 1, from the buffer's first byte on, and its length; what lies
+// beyond stays. Any other style is refused with 1, then a buffer that is shorter than this sheet with 2;
+// a refusal writes nothing.
+pub fn sheet(style: u8, seed: u64, buf: &mut [u8]) -> Written
+    ensures { λ r. ⌜ r ≡ writtenOf (length (now (buf .entry))) (sheetAsked style seed) ⌝ }
+    ensures { λ r. ⌜ now (buf .exit) ≡ bufferOf (now (buf .entry)) (sheetAsked style seed) ⌝ }
+{
+    sheet_in(Edition::Two, style, seed, buf)
 }

@@ -7,10 +7,12 @@ use Rattle.composer.specs.declared.refusal.Refusal.{Refusal}
 use Rattle.pages.specs.Reply.{replyBytes}
 use Rattle.pages.specs.Sheet.{sheetAsked}
 use Rattle.pages.proofs.ReplyLaws.{record-most}
+use Rattle.pages.specs.Edition.{sheetMost}
+use Rattle.pages.specs.declared.edition.Edition.{Edition}
 use Rattle.pages.proofs.SheetLaws.{sheet-most}
 use Rattle.paper.specs.Record.{isRecord, seedIn, styleIn, paperAsked}
 
-pub paper-most : (input : List ℕ) → length (replyBytes (paperAsked input)) ≤ 5164
+pub paper-most : (input : List ℕ) → length (replyBytes (paperAsked input)) ≤ sheetMost Edition.Two
 unfolding paperAsked
 paper-most input =
-    record-most (isRecord input) (sheetAsked (styleIn input) (seedIn input)) Refusal.WrongLength 5164 (omega arith) (sheet-most (styleIn input) (seedIn input))
+    record-most (isRecord input) (sheetAsked (styleIn input) (seedIn input)) Refusal.WrongLength (sheetMost Edition.Two) (omega arith) (sheet-most (styleIn input) (seedIn input))

@@ -1,9 +1,12 @@
-// A record, 8 seed bytes and an optional style byte, and what the program writes for it.
+// A record, 8 seed bytes and an optional style byte, and what the program writes for it: sheets are of edition 2.
 ghost use mathlib.Core.Path.{_≡_};
 ghost use lib.ListN.{length};
+ghost use Rattle.pages.specs.Edition.{sheetMost};
 ghost use Rattle.pages.specs.Reply.{repliedLength, repliedBuffer};
+ghost use Rattle.pages.specs.declared.edition.Edition.{Edition};
 ghost use Rattle.paper.specs.Record.{isRecord, styleIn, paperAsked};
 use composer::refusal::Refusal;
+use pages::edition::SHEET_MOST;
 use pages::get::u64_at;
 use pages::reply::put_refusal;
 use pages::reply::reply;
@@ -31,12 +34,12 @@ fn style_in(input: &[u8]) -> u8
 
 // Writes what the program answers to a record from the first byte of `out` on, and answers its length:
 // the sheet, or the field of a refusal, 5 where the record has not 8 or 9 bytes, then 1 for an unknown
-// style. With fewer than 5,164 places, the most a sheet takes, it writes nothing and answers 0.
+// style. With fewer places than the longest sheet has bytes it writes nothing and answers 0.
 pub fn respond(input: &[u8], out: &mut [u8]) -> usize
-    ensures { λ r. ⌜ r ≡ repliedLength 5164 (length (now (out .entry))) (paperAsked (now (input .entry))) ⌝ }
-    ensures { λ r. ⌜ now (out .exit) ≡ repliedBuffer 5164 (now (out .entry)) (paperAsked (now (input .entry))) ⌝ }
+    ensures { λ r. ⌜ r ≡ repliedLength (sheetMost Edition.Two) (length (now (out .entry))) (paperAsked (now (input .entry))) ⌝ }
+    ensures { λ r. ⌜ now (out .exit) ≡ repliedBuffer (sheetMost Edition.Two) (now (out .entry)) (paperAsked (now (input .entry))) ⌝ }
 {
-    if out.len() < 5164 {
+    if out.len() < SHEET_MOST {
         return 0;
     }
     if !is_record(input) {

@@ -4,6 +4,8 @@ use Prim.Native.Nat.{_≤_}
 use native.Mathlib.Omega.{arith}
 use lib.ListN.{take}
 use lib.Seq.{length-take-le}
+use Rattle.pages.specs.Edition.{sheetMost}
+use Rattle.pages.specs.declared.edition.Edition.{Edition}
 use Rattle.paper.proofs.RecordLaws.{paper-most}
 use borrow.Author.Needs.{needs}
 use Rattle.paper.proofs.main.Statement.{statement}
@@ -27,7 +29,7 @@ slice-aggregate-respond-2 c = search needs
 respond-requires : tie.Need-respond-requires
 respond-requires c κs = search needs
 
-most : (c : tie.After-respond) → c .respond .result ≤ 5164
+most : (c : tie.After-respond) → c .respond .result ≤ sheetMost Edition.Two
 most c =
     let f = c .before .before .before .before .read-full in
     rw (c .respond .ensures .0) (paper-most (take (f .result) (f .last .1 .0)))

@@ -8,21 +8,22 @@ use borrow.Author.Tests.{ltb-true, ltb-false}
 use lib.Dec.{ltb}
 use lib.ListN.{take}
 use Rattle.laws.specs.Sorts.{count}
-use Rattle.pages.specs.Lane.{noteBytes, eventsOf, earlier}
+use Rattle.composer.specs.Note.{noteBar}
+use Rattle.pages.specs.Lane.{barsOf, earlier}
 use Rattle.pages.specs.declared.lane.Lane.{Lane}
 use Rattle.pages.proofs.LaneLaws.{bass-bar, before-on, before-first, before-next, before-last}
 use Rattle.pages.proofs.lane.bass_run.Statement.{statement}
 use Rattle.pages.proofs.lane.bass_run.Tie as tie
 
 abbrev Inv-loop : tie.InvT-loop
-Inv-loop bar bass n from₀ from = (from ≤ n) × (from ≡ count (earlier bar) (take from (map noteBytes (take n bass))))
+Inv-loop bar bass n from₀ from = (from ≤ n) × (from ≡ count (earlier bar) (take from (map noteBar (take n bass))))
 
 abbrev μ-loop : tie.MeasureT-loop
 μ-loop bar bass n from₀ from = n - from
 
 abbrev Inv-loop2 : tie.InvT-loop2
 Inv-loop2 bar bass n from to₀ to =
-    (to ≤ n) × (from ≡ count (earlier bar) (map noteBytes (take n bass))) × (to ≡ count (earlier (bar + 1)) (take to (map noteBytes (take n bass))))
+    (to ≤ n) × (from ≡ count (earlier bar) (map noteBar (take n bass))) × (to ≡ count (earlier (bar + 1)) (take to (map noteBar (take n bass))))
 
 abbrev μ-loop2 : tie.MeasureT-loop2
 μ-loop2 bar bass n from to₀ to = n - to
@@ -55,7 +56,7 @@ loop2-holds c =
     let l = c .before .loop in
     let s = a .args .s in
     let bar = a .args .bar in
-    let first : l .from ≡ count (earlier bar) (eventsOf s Lane.Bass) =
+    let first : l .from ≡ count (earlier bar) (barsOf s Lane.Bass) =
     ⊎-elim
     (λ w.
     let h : l .from < s .«bass_count» = omega (arith, w .0 .taken) in

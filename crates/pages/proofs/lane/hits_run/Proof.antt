@@ -8,21 +8,22 @@ use borrow.Author.Tests.{ltb-true, ltb-false}
 use lib.Dec.{ltb}
 use lib.ListN.{take}
 use Rattle.laws.specs.Sorts.{count}
-use Rattle.pages.specs.Lane.{hitBytes, eventsOf, earlier}
+use Rattle.composer.specs.Note.{hitBar}
+use Rattle.pages.specs.Lane.{barsOf, earlier}
 use Rattle.pages.specs.declared.lane.Lane.{Lane}
 use Rattle.pages.proofs.LaneLaws.{hits-bar, before-on, before-first, before-next, before-last}
 use Rattle.pages.proofs.lane.hits_run.Statement.{statement}
 use Rattle.pages.proofs.lane.hits_run.Tie as tie
 
 abbrev Inv-loop : tie.InvT-loop
-Inv-loop bar hits n from₀ from = (from ≤ n) × (from ≡ count (earlier bar) (take from (map hitBytes (take n hits))))
+Inv-loop bar hits n from₀ from = (from ≤ n) × (from ≡ count (earlier bar) (take from (map hitBar (take n hits))))
 
 abbrev μ-loop : tie.MeasureT-loop
 μ-loop bar hits n from₀ from = n - from
 
 abbrev Inv-loop2 : tie.InvT-loop2
 Inv-loop2 bar hits n from to₀ to =
-    (to ≤ n) × (from ≡ count (earlier bar) (map hitBytes (take n hits))) × (to ≡ count (earlier (bar + 1)) (take to (map hitBytes (take n hits))))
+    (to ≤ n) × (from ≡ count (earlier bar) (map hitBar (take n hits))) × (to ≡ count (earlier (bar + 1)) (take to (map hitBar (take n hits))))
 
 abbrev μ-loop2 : tie.MeasureT-loop2
 μ-loop2 bar hits n from to₀ to = n - to
@@ -55,7 +56,7 @@ loop2-holds c =
     let l = c .before .loop in
     let s = a .args .s in
     let bar = a .args .bar in
-    let first : l .from ≡ count (earlier bar) (eventsOf s Lane.Hits) =
+    let first : l .from ≡ count (earlier bar) (barsOf s Lane.Hits) =
     ⊎-elim
     (λ w.
     let h : l .from < s .«hit_count» = omega (arith, w .0 .taken) in

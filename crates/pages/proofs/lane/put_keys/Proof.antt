@@ -2,6 +2,7 @@
 use mathlib.Core.Path.{_≡_, refl}
 use mathlib.Core.List.{map}
 use Prim.Native.Nat.{ℕ, _-_, _*_, _≤_}
+use native.Mathlib.Nat.{mul-zero}
 use native.Mathlib.Omega.{arith}
 use lib.ListN.{length, take, drop}
 use Rattle.laws.specs.Lists.{joined}
@@ -9,25 +10,26 @@ use Rattle.laws.specs.Writes.{Wrote}
 use Rattle.laws.proofs.Joins.{times-fits}
 use Rattle.laws.proofs.Writes.{wrote-none, wrote-length}
 use Rattle.composer.specs.Note.{pastNote}
+use Rattle.pages.specs.Edition.{noteWidth}
 use Rattle.pages.specs.Lane.{noteBytes}
 use Rattle.pages.proofs.LaneLaws.{event-wrote}
 use Rattle.pages.proofs.lane.put_keys.Statement.{statement}
 use Rattle.pages.proofs.lane.put_keys.Tie as tie
 
 abbrev Inv-loop : tie.InvT-loop
-Inv-loop buf₀ at run keys o₀ i₀ buf o i =
+Inv-loop buf₀ at edition run keys o₀ i₀ buf o i =
     (run .from ≤ i) × (i ≤ run .to) × (length buf ≡ length buf₀)
-    × ((n : ℕ) → run .to ≤ n → n ≤ length keys → Wrote buf₀ buf at o (14 * (i - run .from)) (joined (take (i - run .from) (drop (run .from) (map noteBytes (take n keys))))))
+    × ((n : ℕ) → run .to ≤ n → n ≤ length keys → Wrote buf₀ buf at o (noteWidth edition * (i - run .from)) (joined (take (i - run .from) (drop (run .from) (map (noteBytes edition) (take n keys))))))
 
 abbrev μ-loop : tie.MeasureT-loop
-μ-loop buf₀ at run keys o₀ i₀ buf o i = run .to - i
+μ-loop buf₀ at edition run keys o₀ i₀ buf o i = run .to - i
 
 loop-holds : tie.Need-loop-holds Inv-loop μ-loop
 unfolding joined
 loop-holds c =
     let a = c .before .before .args in
     let e : a .run .from - a .run .from ≡ 0 = omega arith in
-    (omega arith, omega arith, refl, λ n h k. rw e (wrote-none (a .buf .now) (a .at) (omega arith)))
+    (omega arith, omega arith, refl, λ n h k. rw (e, mul-zero (noteWidth (a .edition))) (wrote-none (a .buf .now) (a .at) (omega arith)))
 
 mul-note : tie.Need-mul-note Inv-loop μ-loop
 mul-note c = omega (arith, c .before .before .before .before .before .pre .0 .lanes .keys .few)
@@ -42,7 +44,7 @@ put-note-requires c κs =
     let r = a .args .run in
     let p = a .pre .0 .lanes .keys in
     let w = l .inv .3 (a .args .s .«keys_count») (a .pre .1 .0 .1) (omega (arith, p .few, p .size)) in
-    (a .pre .0 .numbers .keys (l .i) (omega arith), omega (arith, w .next, times-fits 14 (r .from) (l .i) (l .inv .0) (r .to) (omega arith)))
+    (a .pre .0 .numbers .keys (l .i) (omega arith), omega (arith, w .next, times-fits (noteWidth (a .args .edition)) (r .from) (l .i) (l .inv .0) (r .to) (omega arith)))
 
 add-i : tie.Need-add-i Inv-loop μ-loop
 add-i c = omega (arith, c .before .before .before .before .before .before .before .before .before .before .pre .0 .lanes .keys .few)
@@ -58,7 +60,7 @@ loop-again c =
       omega arith,
       omega arith,
       omega (arith, wrote-length (p .put-note .ensures)),
-      λ n h k. event-wrote noteBytes pastNote 14 (a .s .keys) n (a .run .from) (l .i) (l .inv .0) (omega arith) k (l .inv .3 n h k) (p .put-note .ensures),
+      λ n h k. event-wrote (noteBytes (a .edition)) pastNote (noteWidth (a .edition)) (a .s .keys) n (a .run .from) (l .i) (l .inv .0) (omega arith) k (l .inv .3 n h k) (p .put-note .ensures),
     )
 
 same-length : tie.Need-same-length Inv-loop μ-loop

@@ -22,14 +22,14 @@ mul-put-head : tie.Need-mul-put-head
 mul-put-head c =
     let a = c .before .before .before .before .before in
     let r = a .args .run in
-    let small = run-small (a .args .s) (a .pre .0 .lanes) (a .args .lane) (r .to - r .from) (omega arith) in
+    let small = run-small (a .args .s) (a .pre .0 .lanes) (a .args .edition) (a .args .lane) (r .to - r .from) (omega arith) in
     rw (c .before .before .width .ensures) (omega arith)
 
 put-head-requires : tie.Need-put-head-requires
 put-head-requires c κs =
     let a = c .before .before .before .before .before in
     let r = a .args .run in
-    rw (c .before .before .width .ensures) (run-small (a .args .s) (a .pre .0 .lanes) (a .args .lane) (r .to - r .from) (omega arith), omega arith)
+    rw (c .before .before .width .ensures) (run-small (a .args .s) (a .pre .0 .lanes) (a .args .edition) (a .args .lane) (r .to - r .from) (omega arith), omega arith)
 
 put-events-requires : tie.Need-put-events-requires
 put-events-requires c κs = search needs

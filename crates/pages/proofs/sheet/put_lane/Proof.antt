@@ -23,7 +23,7 @@ returns : tie.Need-returns
 returns c =
     let p = c .before .before in
     let a = p .before .before .before .before in
-    let whole = whole-run (eventsOf (a .args .s) (a .args .lane)) (countIn (a .args .s) (a .args .lane)) (length-events (a .args .s) (a .pre .0 .lanes) (a .args .lane)) in
+    let whole = whole-run (eventsOf (a .args .edition) (a .args .s) (a .args .lane)) (countIn (a .args .s) (a .args .lane)) (length-events (a .args .s) (a .pre .0 .lanes) (a .args .edition) (a .args .lane)) in
     let e = p .before .before .count .ensures in
     rw (e, whole, sub-zero (countIn (a .args .s) (a .args .lane))) at (p .put-run .ensures)
 

@@ -1,4 +1,4 @@
--- What a song is before its events, its lanes, its form. Assumes nothing.
+-- The edition's field, what a song is before its events, its lanes, its form. Assumes nothing.
 use mathlib.Core.Path.{refl}
 use native.Mathlib.Omega.{arith}
 use Rattle.laws.proofs.Writes.{wrote-then, wrote-as}
@@ -6,6 +6,9 @@ use Rattle.pages.specs.Sheet.{sheetBytes}
 use borrow.Author.Needs.{needs}
 use Rattle.pages.proofs.sheet.put_sheet.Statement.{statement}
 use Rattle.pages.proofs.sheet.put_sheet.Tie as tie
+
+put-edition-requires : tie.Need-put-edition-requires
+put-edition-requires c κs = search needs
 
 put-song-requires : tie.Need-put-song-requires
 put-song-requires c κs = search needs
@@ -25,12 +28,14 @@ returns c =
     let c3 = c .before .before in
     let c2 = c3 .before .before .before .before in
     let c1 = c2 .before .before .before .before in
-    wrote-as (omega arith) refl (wrote-then (c1 .put-song .ensures) (wrote-then (c2 .put-lanes .ensures) (c3 .put-form .ensures)))
+    let c0 = c1 .before .before .before .before in
+    wrote-as (omega arith) refl (wrote-then (c0 .put-edition .ensures) (wrote-then (c1 .put-song .ensures) (wrote-then (c2 .put-lanes .ensures) (c3 .put-form .ensures))))
 
 pub put-sheet-spec : {M : Type 1} → statement M
 put-sheet-spec =
     tie.close
     (tie.spec
+    put-edition-requires
     put-song-requires
     put-lanes-requires
     put-form-requires

@@ -10,6 +10,8 @@ use Rattle.composer.specs.declared.refusal.Refusal.{Refusal}
 use Rattle.pages.specs.Answer.{Declines}
 use Rattle.pages.specs.Sheet.{sheetAsked}
 use Rattle.pages.proofs.ReplyLaws.{replied-none, replied-whole, replied-after}
+use Rattle.pages.specs.Edition.{sheetMost}
+use Rattle.pages.specs.declared.edition.Edition.{Edition}
 use Rattle.pages.proofs.SheetLaws.{sheet-most}
 use Rattle.paper.specs.Record.{paperAsked}
 use borrow.Author.Needs.{needs}
@@ -19,7 +21,7 @@ use Rattle.paper.proofs.record.respond.Tie as tie
 returns : tie.Need-returns
 returns c =
     let a = c .before .before .before .args in
-    replied-none 5164 (paperAsked (a .input .now)) (a .out .now) (c .if1 .taken)
+    replied-none (sheetMost Edition.Two) (paperAsked (a .input .now)) (a .out .now) (c .if1 .taken)
 
 is-record-requires : tie.Need-is-record-requires
 is-record-requires c κs = search needs
@@ -38,7 +40,7 @@ returns-2 c =
     let l = t .before .before in
     let a = l .before .before .before .args in
     rw (sym (t .before .is-record .ensures) ∙ not-true (t .before .is-record .result) (t .if2 .taken))
-    (replied-whole 5164 (Declines Refusal.WrongLength) (a .out .now) (l .if1 .left) (p .put-refusal .ensures .0) (p .put-refusal .ensures .1))
+    (replied-whole (sheetMost Edition.Two) (Declines Refusal.WrongLength) (a .out .now) (l .if1 .left) (p .put-refusal .ensures .0) (p .put-refusal .ensures .1))
 
 style-in-requires : tie.Need-style-in-requires
 style-in-requires c κs = search needs
@@ -77,7 +79,7 @@ returns-3 c =
     let l = t .before .before in
     let a = l .before .before .before .args in
     rw (sym (t .before .is-record .ensures) ∙ not-false (t .before .is-record .result) (t .if2 .left), ← s .u64-at .ensures, ← s .before .style-in .ensures)
-    (replied-after 5164 (sheetAsked (s .before .style-in .result) (s .u64-at .result)) (a .out .now) (l .if1 .left) (sheet-most _ _) (w .sheet .ensures .0) (w .sheet .ensures .1) (p .reply .ensures .0) (p .reply .ensures .1))
+    (replied-after (sheetMost Edition.Two) (sheetAsked (s .before .style-in .result) (s .u64-at .result)) (a .out .now) (l .if1 .left) (sheet-most _ _) (w .sheet .ensures .0) (w .sheet .ensures .1) (p .reply .ensures .0) (p .reply .ensures .1))
 
 pub respond-spec : {M : Type 1} → statement M
 respond-spec =

@@ -4,11 +4,11 @@ use Rattle.composer.specs.Compose.{composeOf}
 use Rattle.composer.specs.declared.refusal.Outcome.{Outcome}
 use Rattle.composer.proofs.ComposeLaws.{done-promise, events-promise}
 use Rattle.composer.proofs.form.Arranged.{arranged-promise}
-use Rattle.pages.specs.Sheet.{sheetAsked}
+use Rattle.pages.specs.Sheet.{sheetIn}
 use Rattle.pages.proofs.WritableLaws.{writable}
 use borrow.Author.Needs.{needs}
-use Rattle.pages.proofs.sheet.sheet.Statement.{statement}
-use Rattle.pages.proofs.sheet.sheet.Tie as tie
+use Rattle.pages.proofs.sheet.sheet_in.Statement.{statement}
+use Rattle.pages.proofs.sheet.sheet_in.Tie as tie
 
 compose-requires : tie.Need-compose-requires
 compose-requires c κs = search needs
@@ -31,7 +31,7 @@ sheet-into-requires c κs =
     rw (p .compose .ensures, c .before .arrange .ensures) (writable (composeOf (a .style) (a .seed) .score) (events-promise promise), (promise .range .chord-size, (promise .scale-most, arranged-promise (a .seed) .most)))
 
 returns : tie.Need-returns
-unfolding sheetAsked
+unfolding sheetIn
 returns c =
     let e = rw (c .before .before .before .compose .ensures) at (c .before .outcome .given .1) in
     (rw e, rw e)
@@ -40,7 +40,7 @@ same-length : tie.Need-same-length
 same-length c = search needs
 
 returns-2 : tie.Need-returns-2
-unfolding sheetAsked
+unfolding sheetIn
 returns-2 c =
     let q = c .before .before in
     let t = q .before .before .before .before .before in
@@ -49,8 +49,8 @@ returns-2 c =
     let done : composeOf (a .style) (a .seed) .outcome ≡ Outcome.Done = rw (p .compose .ensures) at (t .enum-told .given .1) in
     rw (done, ← p .compose .ensures, ← q .before .before .arrange .ensures) (q .sheet-into .ensures)
 
-pub sheet-spec : {M : Type 1} → statement M
-sheet-spec =
+pub sheet-in-spec : {M : Type 1} → statement M
+sheet-in-spec =
     tie.close
     (tie.spec
     compose-requires
