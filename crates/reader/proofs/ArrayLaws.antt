@@ -17,9 +17,11 @@ use Rattle.composer.specs.Chord.{pastChord}
 use Rattle.composer.specs.Form.Plays.{bitsOf, silent}
 use Rattle.composer.specs.Note.{noNote, pastNote, noHit, pastHit}
 use Rattle.pages.specs.Bytes.{byteAt, be32At}
+use Rattle.pages.specs.Edition.{noteWidth}
+use Rattle.pages.specs.declared.edition.Edition.{Edition}
 use Rattle.reader.specs.Cleared.{noteZero, hitZero, notesZero, hitsZero, scaleZero, playsZero, scoreZero, cleared}
 use Rattle.reader.specs.Codes.{playsCoded}
-use Rattle.reader.specs.Layout.{bodyAt, sizeAt, formed}
+use Rattle.reader.specs.Layout.{editionIn, bodyAt, sizeAt, formed}
 use Rattle.reader.specs.Song.{noteAt, hitAt, notesAt, hitsAt, chordFrom, scaleAt, noteCountIn, hitCountIn, scoreIn, formIn, songIn}
 use Rattle.reader.specs.Tests.{allTo}
 use Rattle.reader.specs.Value.{TypedNote, TypedHit, TypedLane, Shaped, Typed}
@@ -62,9 +64,9 @@ module _ {A : Type 0} (z : A) (cap : ℕ) (f : ℕ → A) (n : ℕ) where
       go i false s h = subst P (sym (array-rest d i (ltb-false i n s) h)) q
 
 -- ---- unused entries are zero, whatever the bytes
-notes-cleared : (bytes : List ℕ) (at cap n : ℕ) → notesZero (pad noNote cap (notesAt bytes at n)) cap n ≡ true
+notes-cleared : (edition : Edition) (leads : Bool) (bytes : List ℕ) (at cap n : ℕ) → notesZero (pad noNote cap (notesAt edition leads bytes at n)) cap n ≡ true
 unfolding notesZero noteZero toBits ofBits
-notes-cleared bytes at cap n = array-cleared noNote cap (λ i. noteAt bytes (at + 14 * i)) n noteZero pastNote refl
+notes-cleared edition leads bytes at cap n = array-cleared noNote cap (λ i. noteAt edition leads bytes (at + noteWidth edition * i)) n noteZero pastNote refl
 
 hits-cleared : (bytes : List ℕ) (at cap n : ℕ) → hitsZero (pad noHit cap (hitsAt bytes at n)) cap n ≡ true
 unfolding hitsZero hitZero toBits ofBits
@@ -83,18 +85,18 @@ pub cleared-read : (bytes : List ℕ) → cleared (songIn bytes) ≡ true
 unfolding cleared songIn scoreZero scoreIn
 cleared-read bytes =
     rw (
-      notes-cleared bytes (bodyAt bytes 4) 56 (noteCountIn bytes 4),
-      notes-cleared bytes (bodyAt bytes 5) 128 (noteCountIn bytes 5),
+      notes-cleared (editionIn bytes) true bytes (bodyAt bytes 4) 56 (noteCountIn bytes 4),
+      notes-cleared (editionIn bytes) false bytes (bodyAt bytes 5) 128 (noteCountIn bytes 5),
       hits-cleared bytes (bodyAt bytes 6) 98 (hitCountIn bytes 6),
-      notes-cleared bytes (bodyAt bytes 7) 104 (noteCountIn bytes 7),
+      notes-cleared (editionIn bytes) false bytes (bodyAt bytes 7) 104 (noteCountIn bytes 7),
       scale-cleared bytes (bodyAt bytes 3) (sizeAt bytes 3),
       plays-cleared bytes,
     )
 
 -- ---- floats that f32 holds, arrays of their lengths, a seed of 64 bits
-typed-note : (bytes : List ℕ) (at : ℕ) → TypedNote (noteAt bytes at)
+typed-note : (edition : Edition) (leads : Bool) (bytes : List ℕ) (at : ℕ) → TypedNote (noteAt edition leads bytes at)
 unfolding noteAt
-typed-note bytes at = record {
+typed-note edition leads bytes at = record {
   at = ofBits-fits binary32 (be32At bytes (at + 1));
   vel = ofBits-fits binary32 (be32At bytes (at + 6));
   dur = ofBits-fits binary32 (be32At bytes (at + 10));
@@ -104,10 +106,10 @@ typed-hit : (bytes : List ℕ) (at : ℕ) → TypedHit (hitAt bytes at)
 unfolding hitAt
 typed-hit bytes at = record { at = ofBits-fits binary32 (be32At bytes (at + 2)); gain = ofBits-fits binary32 (be32At bytes (at + 6)) }
 
-typed-notes : (bytes : List ℕ) (at cap n : ℕ) → n ≤ cap → TypedLane TypedNote pastNote cap (pad noNote cap (notesAt bytes at n))
-typed-notes bytes at cap n few =
+typed-notes : (edition : Edition) (leads : Bool) (bytes : List ℕ) (at cap n : ℕ) → n ≤ cap → TypedLane TypedNote pastNote cap (pad noNote cap (notesAt edition leads bytes at n))
+typed-notes edition leads bytes at cap n few =
     let zero = ofBits-fits binary32 0 in
-    array-typed noNote cap (λ i. noteAt bytes (at + 14 * i)) n TypedNote pastNote few (λ i. typed-note bytes (at + 14 * i)) (record { at = zero; vel = zero; dur = zero })
+    array-typed noNote cap (λ i. noteAt edition leads bytes (at + noteWidth edition * i)) n TypedNote pastNote few (λ i. typed-note edition leads bytes (at + noteWidth edition * i)) (record { at = zero; vel = zero; dur = zero })
 
 typed-hits : (bytes : List ℕ) (at cap n : ℕ) → n ≤ cap → TypedLane TypedHit pastHit cap (pad noHit cap (hitsAt bytes at n))
 typed-hits bytes at cap n few =
@@ -125,10 +127,10 @@ module _ (bytes : List ℕ) (ok : formed bytes ≡ true) where
           size = length-list-to (λ b. chordFrom bytes (bodyAt bytes 2 + 4 * b)) 8;
           each = λ i h. rw (list-to-at (λ b. chordFrom bytes (bodyAt bytes 2 + 4 * b)) pastChord 8 i h);
         };
-        lead = typed-notes bytes (bodyAt bytes 4) 56 (noteCountIn bytes 4) (held .lead-few);
-        keys = typed-notes bytes (bodyAt bytes 5) 128 (noteCountIn bytes 5) (held .keys-few);
+        lead = typed-notes (editionIn bytes) true bytes (bodyAt bytes 4) 56 (noteCountIn bytes 4) (held .lead-few);
+        keys = typed-notes (editionIn bytes) false bytes (bodyAt bytes 5) 128 (noteCountIn bytes 5) (held .keys-few);
         hits = typed-hits bytes (bodyAt bytes 6) 98 (hitCountIn bytes 6) (held .hits-few);
-        bass = typed-notes bytes (bodyAt bytes 7) 104 (noteCountIn bytes 7) (held .bass-few);
+        bass = typed-notes (editionIn bytes) false bytes (bodyAt bytes 7) 104 (noteCountIn bytes 7) (held .bass-few);
         pcs = array-size 0 6 (λ i. byteAt bytes (bodyAt bytes 3 + i)) (sizeAt bytes 3) (held .scale-few);
         plays = array-size silent 64 (λ b. playsCoded (byteAt bytes (bodyAt bytes 9 + b))) (sizeAt bytes 9) (held .plays-few);
       }

@@ -1,6 +1,6 @@
--- Whatever lengths its fields may have each, a song of zeros has them all: none of the ten depends on another. Assumes
--- nothing.
-use mathlib.Core.Path.{_≡_, refl, ap, _∙_, subst}
+-- Whatever lengths its fields may have each, in either edition, a song of zeros but for its roles has them all: none of
+-- the ten depends on another. Assumes nothing.
+use mathlib.Core.Path.{_≡_, refl, sym, ap, _∙_, subst}
 use mathlib.Core.Bool.{Bool, true, false, cond}
 use mathlib.Core.List.{List}
 use Prim.Native.Nat.{ℕ, _/_, _%_, _≤_, _<_, min}
@@ -8,10 +8,11 @@ use native.Mathlib.Omega.{arith}
 use lib.Dec.{eqb, leb, lit<}
 use lib.Ieee.{binary32, ofBits}
 use lib.Ieee.Bits.{ofBits-fits}
-use lib.ListN.{getD, replicate, length-replicate, getD-replicate}
-use Rattle.laws.specs.Lists.{listTo}
-use Rattle.laws.proofs.Lists.{list-to-at}
+use lib.ListN.{length, getD, replicate, length-replicate, getD-replicate}
+use Rattle.laws.specs.Lists.{listTo, pad}
+use Rattle.laws.proofs.Lists.{list-to-at, length-pad, pad-at, getD-any}
 use Rattle.laws.proofs.Sorts.{all-at}
+use Rattle.laws.proofs.Written.{rest-is}
 use Rattle.composer.specs.Chord.{pastChord, noChord}
 use Rattle.composer.specs.Form.{partsOf}
 use Rattle.composer.specs.Form.Plays.{silent}
@@ -20,8 +21,12 @@ use Rattle.composer.specs.declared.form.Form.{Form}
 use Rattle.composer.specs.declared.form.ends.Bars.{Bars}
 use Rattle.composer.specs.declared.form.ends.End.{End}
 use Rattle.composer.specs.declared.form.ends.Outro.{Outro}
+use Rattle.composer.specs.declared.note.Note.{Note}
+use Rattle.composer.specs.declared.note.NoteRole.{NoteRole}
 use Rattle.composer.specs.declared.style.Style.{Style}
 use Rattle.composer.specs.declared.voice.LeadVoice.{LeadVoice}
+use Rattle.pages.specs.Edition.{noteWidth}
+use Rattle.pages.specs.declared.edition.Edition.{Edition}
 use Rattle.reader.specs.Layout.{sizeAt, widths, least, most, lengthFits}
 use Rattle.reader.specs.Lengths.{AllHad}
 use Rattle.reader.specs.Tests.{allTo}
@@ -54,34 +59,50 @@ abbrev blankForm : ℕ → Form
 blankForm n = record { intro = introFor n; phrases = min (n / 8) 6; outro = outroFor n; dip = false; plays = replicate 64 silent; bars = n }
 
 abbrev formTest : ℕ → Bool
-formTest n = cond (lengthFits 9 n) (formWithin (blankForm n)) true
+formTest n = cond (lengthFits Edition.Two 9 n) (formWithin (blankForm n)) true
 
 form-tests : allTo formTest 65 ≡ true
 unfolding allTo lengthFits formWithin
 form-tests = refl
 
-blank-parts : (n : ℕ) → lengthFits 9 n ≡ true → (4 ≤ blankForm n .phrases) × (blankForm n .phrases ≤ 6) × (partsOf (blankForm n) ≡ n)
-blank-parts n e =
-    let span : Spans 2 16 32 n = length-spans 9 n e in
-    let test : formTest n ≡ true = all-to-at formTest 65 form-tests n (omega (arith, span .most)) in
-    form-told (blankForm n) (rw e at test)
+-- the bars are the same in both editions
+bars-alike : (edition : Edition) (n : ℕ) → lengthFits edition 9 n ≡ lengthFits Edition.Two 9 n
+unfolding lengthFits
+bars-alike edition n = refl
 
--- ---- a song of zeros
-abbrev pub blankSong : (ℕ → ℕ) → Song
-blankSong size = record {
+blank-parts : (edition : Edition) (n : ℕ) → lengthFits edition 9 n ≡ true → (4 ≤ blankForm n .phrases) × (blankForm n .phrases ≤ 6) × (partsOf (blankForm n) ≡ n)
+blank-parts edition n e =
+    let span : Spans 2 16 32 n = length-spans edition 9 n e in
+    let test : formTest n ≡ true = all-to-at formTest 65 form-tests n (omega (arith, span .most)) in
+    form-told (blankForm n) (rw (sym (bars-alike edition n) ∙ e) at test)
+
+-- ---- a song of zeros, but for the roles of its notes
+-- a note of zeros with a role that its lane has
+abbrev blankNote : Edition → Bool → Note
+blankNote Edition.One leads = record { bar = 0; midi = 0; role = NoteRole.Backing; spare = 0; at = zero32; vel = zero32; dur = zero32 }
+blankNote Edition.Two true = noNote
+blankNote Edition.Two false = record { bar = 0; midi = 0; role = NoteRole.Backing; spare = 0; at = zero32; vel = zero32; dur = zero32 }
+
+-- n of them, in an array
+abbrev blankNotes : Edition → Bool → ℕ → ℕ → List Note
+blankNotes edition leads cap n = pad noNote cap (replicate n (blankNote edition leads))
+
+abbrev pub blankSong : Edition → (ℕ → ℕ) → Song
+blankSong edition size = record {
+  edition = edition;
   seed = 0;
   score = record {
     style = Style.Hiphop;
     bpm = zero32;
     «bar_chords» = replicate 8 noChord;
-    lead = replicate 56 noNote;
-    «lead_count» = size 4 / 14;
-    keys = replicate 128 noNote;
-    «keys_count» = size 5 / 14;
+    lead = blankNotes edition true 56 (size 4 / noteWidth edition);
+    «lead_count» = size 4 / noteWidth edition;
+    keys = blankNotes edition false 128 (size 5 / noteWidth edition);
+    «keys_count» = size 5 / noteWidth edition;
     hits = replicate 98 noHit;
     «hit_count» = size 6 / 10;
-    bass = replicate 104 noNote;
-    «bass_count» = size 7 / 14;
+    bass = blankNotes edition false 104 (size 7 / noteWidth edition);
+    «bass_count» = size 7 / noteWidth edition;
     «lead_voice» = LeadVoice.EpVel;
   };
   scale = record { pcs = replicate 6 0; n = size 3 };
@@ -99,52 +120,70 @@ blank-padded d z cap n few p = record {
 no-chord-in : ChordIn noChord
 no-chord-in = record { size = refl; notes = λ k h. rw (getD-replicate {A = ℕ} 4 k 0 0 h) (omega arith) }
 
-no-note-in : NoteIn noNote
+blank-note-in : (edition : Edition) (leads : Bool) → NoteIn edition leads (blankNote edition leads)
 unfolding ofBits
-no-note-in = record { bar = omega arith; midi = omega arith; spare = refl; numbers = record { at = tt; vel = tt; dur = tt }; typed = no-note-typed }
+blank-note-in Edition.One leads = record { bar = omega arith; midi = omega arith; role = refl; spare = refl; numbers = record { at = tt; vel = tt; dur = tt }; typed = record { at = ofBits-fits binary32 0; vel = ofBits-fits binary32 0; dur = ofBits-fits binary32 0 } }
+blank-note-in Edition.Two true = record { bar = omega arith; midi = omega arith; role = omega arith; spare = refl; numbers = record { at = tt; vel = tt; dur = tt }; typed = no-note-typed }
+blank-note-in Edition.Two false = record { bar = omega arith; midi = omega arith; role = refl; spare = refl; numbers = record { at = tt; vel = tt; dur = tt }; typed = record { at = ofBits-fits binary32 0; vel = ofBits-fits binary32 0; dur = ofBits-fits binary32 0 } }
+
+blank-notes : (edition : Edition) (leads : Bool) (cap n : ℕ) → n ≤ cap → Padded (NoteIn edition leads) pastNote noNote cap (blankNotes edition leads cap n) n
+blank-notes edition leads cap n few =
+    let xs = replicate n (blankNote edition leads) in
+    let l : length xs ≡ n = length-replicate n (blankNote edition leads) in
+    record {
+      size = length-pad noNote cap xs (omega arith);
+      few = few;
+      used = λ i h.
+          let here = getD-any (pad noNote cap xs) i pastNote noNote (omega (arith, length-pad noNote cap xs (omega arith))) ∙ pad-at noNote cap xs i (omega arith) ∙ getD-replicate n i (blankNote edition leads) noNote h in
+          rw here (blank-note-in edition leads);
+      rest = λ i h k. rest-is noNote cap xs i pastNote (omega arith) k;
+    }
 
 no-hit-in : HitIn noHit
 unfolding ofBits
 no-hit-in = record { bar = omega arith; spare = refl; numbers = record { at = tt; gain = tt }; typed = no-hit-typed }
 
 -- ---- of ten lengths that fit
-module _ (size : ℕ → ℕ) (fit : (k : ℕ) → k < 10 → lengthFits k (size k) ≡ true) where
-  span : (k : ℕ) → k < 10 → Spans (getD widths k 0) (getD least k 0) (getD most k 0) (size k)
-  span k h = length-spans k (size k) (fit k h)
+module _ (edition : Edition) (size : ℕ → ℕ) (fit : (k : ℕ) → k < 10 → lengthFits edition k (size k) ≡ true) where
+  abbrev w : ℕ
+  w = noteWidth edition
+
+  span : (k : ℕ) → k < 10 → Spans (getD (widths edition) k 0) (getD least k 0) (getD most k 0) (size k)
+  span k h = length-spans edition k (size k) (fit k h)
 
   classes-span : Spans 1 5 6 (size 3)
   classes-span = span 3 (omega arith)
 
-  lead-span : Spans 14 0 56 (size 4)
+  lead-span : Spans w 0 56 (size 4)
   lead-span = span 4 (omega arith)
 
-  keys-span : Spans 14 0 128 (size 5)
+  keys-span : Spans w 0 128 (size 5)
   keys-span = span 5 (omega arith)
 
   hits-span : Spans 10 0 98 (size 6)
   hits-span = span 6 (omega arith)
 
-  bass-span : Spans 14 0 104 (size 7)
+  bass-span : Spans w 0 104 (size 7)
   bass-span = span 7 (omega arith)
 
   bars-span : Spans 2 16 32 (size 9)
   bars-span = span 9 (omega arith)
 
   abbrev blank : Song
-  blank = blankSong size
+  blank = blankSong edition size
 
   pub blank-value : Value blank
   unfolding ofBits
   blank-value =
-      let parts = blank-parts (size 9) (fit 9 (omega arith)) in
+      let parts = blank-parts edition (size 9) (fit 9 (omega arith)) in
       record {
         bpm = tt;
         bpm-fits = ofBits-fits binary32 0;
         chords = blank-padded pastChord noChord 8 8 (omega arith) no-chord-in;
-        lead = blank-padded pastNote noNote 56 (size 4 / 14) (lead-span .most) no-note-in;
-        keys = blank-padded pastNote noNote 128 (size 5 / 14) (keys-span .most) no-note-in;
+        lead = blank-notes edition true 56 (size 4 / w) (lead-span .most);
+        keys = blank-notes edition false 128 (size 5 / w) (keys-span .most);
         hits = blank-padded pastHit noHit 98 (size 6 / 10) (hits-span .most) no-hit-in;
-        bass = blank-padded pastNote noNote 104 (size 7 / 14) (bass-span .most) no-note-in;
+        bass = blank-notes edition false 104 (size 7 / w) (bass-span .most);
         classes = blank-padded 0 0 6 (size 3) (omega (arith, classes-span .most)) (omega arith);
         classes-least = omega (arith, classes-span .least);
         phrases = (parts .0, parts .1);
@@ -165,9 +204,10 @@ module _ (size : ℕ → ℕ) (fit : (k : ℕ) → k < 10 → lengthFits k (size
       (keys-size blank stored ∙ whole-size keys-span) (hits-size blank stored ∙ whole-size hits-span) (bass-size blank stored ∙ whole-size bass-span)
       (size-is (ends-stand blank) ∙ one-size (span 8 (omega arith))) (bars-read blank stored)
 
-  pub lengths-had : AllHad size
+  pub lengths-had : AllHad edition size
   lengths-had = record {
     v = blank;
+    of = refl;
     valid = value-valid blank blank-value;
     typed = value-typed blank blank-value (lit< tt);
     sizes = λ k h. ap (λ (b : List ℕ). sizeAt b k) (as-fields blank) ∙ sized-at k h;

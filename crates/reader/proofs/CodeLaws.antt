@@ -1,22 +1,25 @@
 -- Known codes are written again as they were read. Assumes nothing.
-use mathlib.Core.Path.{_≡_, refl, sym, _∙_}
+use mathlib.Core.Path.{_≡_, refl, sym, ap, _∙_}
 use mathlib.Core.Bool.{Bool, true, false, _&&_, _||_, cond}
-use Prim.Native.Nat.{ℕ, _<_}
+use Prim.Native.Nat.{ℕ, _≤_, _<_}
 use native.Mathlib.Omega.{arith}
-use borrow.Author.Tests.{eqb-true, leb-true}
-use lib.Dec.{eqb, leb}
+use borrow.Author.Tests.{eqb-true, leb-true, ltb-true, ltb-false, ne-eqb}
+use lib.Dec.{eqb, leb, ltb}
 use Rattle.composer.specs.Compose.{styleBy}
 use Rattle.composer.specs.Form.Ends.{countOf, endCodeOf, endBarsOf, outroCodeOf, outroLengthOf}
 use Rattle.composer.specs.Form.Plays.{bitsOf}
-use Rattle.composer.specs.Note.{kindNumberOf}
+use Rattle.composer.specs.Note.{roleNumberOf, kindNumberOf}
 use Rattle.composer.specs.Style.{styleNumberOf}
 use Rattle.composer.specs.Voice.{voiceNumberOf}
 use Rattle.composer.specs.declared.form.ends.Bars.{Bars}
 use Rattle.composer.specs.declared.form.ends.Edge.{Edge}
 use Rattle.composer.specs.declared.form.ends.End.{End}
 use Rattle.composer.specs.declared.form.ends.Outro.{Outro}
-use Rattle.reader.specs.Codes.{voiceCoded, kindCoded, barsCoded, edgeCoded, endCoded, outroCoded, playsCoded, endKnown, outroKnown}
+use Rattle.composer.specs.declared.note.NoteRole.{NoteRole}
+use Rattle.pages.specs.declared.edition.Edition.{Edition}
+use Rattle.reader.specs.Codes.{voiceCoded, leadRoleCoded, roleCoded, kindCoded, barsCoded, edgeCoded, endCoded, outroCoded, playsCoded, endKnown, outroKnown}
 use Rattle.reader.specs.Tests.{allTo}
+use Rattle.reader.specs.Within.{roleWithin}
 use Rattle.reader.proofs.TestLaws.{both, all-to-at}
 
 -- ---- by a table of all that are known
@@ -34,6 +37,39 @@ voice-again = same-to (λ c. voiceNumberOf (voiceCoded c)) 4 refl
 pub kind-again : (c : ℕ) → c < 4 → kindNumberOf (kindCoded c) ≡ c
 unfolding allTo
 kind-again = same-to (λ c. kindNumberOf (kindCoded c)) 4 refl
+
+-- a role that its lane has
+lead-role-again : (c : ℕ) → c < 6 → roleNumberOf (leadRoleCoded c) ≡ c
+unfolding allTo
+lead-role-again = same-to (λ c. roleNumberOf (leadRoleCoded c)) 6 refl
+
+no-lead-role : (c : ℕ) → 6 ≤ c → leadRoleCoded c ≡ NoteRole.Backing
+no-lead-role c h = rw (
+  ne-eqb c 0 (λ e. omega arith),
+  ne-eqb c 1 (λ e. omega arith),
+  ne-eqb c 2 (λ e. omega arith),
+  ne-eqb c 3 (λ e. omega arith),
+  ne-eqb c 4 (λ e. omega arith),
+  ne-eqb c 5 (λ e. omega arith),
+)
+
+-- the role that is read passes as its code does
+lead-tests : (c : ℕ) (t : Bool) → ltb c 6 ≡ t → ltb (roleNumberOf (leadRoleCoded c)) 6 ≡ t
+lead-tests c true e = ap (λ (n : ℕ). ltb n 6) (lead-role-again c (ltb-true c 6 e)) ∙ e
+lead-tests c false e = ap (λ (r : NoteRole). ltb (roleNumberOf r) 6) (no-lead-role c (ltb-false c 6 e))
+
+back-tests : (t : Bool) → eqb (roleNumberOf (cond t NoteRole.Backing NoteRole.Quote)) 6 ≡ t
+back-tests true = refl
+back-tests false = refl
+
+pub role-tests : (leads : Bool) (c : ℕ) → roleWithin Edition.Two leads (roleCoded leads c) ≡ cond leads (ltb c 6) (eqb c 6)
+unfolding roleWithin
+role-tests true c = lead-tests c (ltb c 6) refl
+role-tests false c = back-tests (eqb c 6)
+
+pub role-again : (leads : Bool) (c : ℕ) → roleWithin Edition.Two leads (roleCoded leads c) ≡ true → roleNumberOf (roleCoded leads c) ≡ c
+role-again true c e = lead-role-again c (ltb-true c 6 (sym (role-tests true c) ∙ e))
+role-again false c e = let six = sym (role-tests false c) ∙ e in rw six (sym (eqb-true c 6 six))
 
 pub dip-again : (c : ℕ) → c < 2 → cond (eqb c 1) 1 0 ≡ c
 unfolding allTo

@@ -1,7 +1,7 @@
 -- Every composed song is a value that a sheet can have: the promises of every song and of every form say so. Assumes
 -- nothing.
 use mathlib.Core.Path.{_≡_, sym}
-use mathlib.Core.Bool.{true}
+use mathlib.Core.Bool.{Bool, true, false}
 use mathlib.Core.List.{List}
 use Prim.Native.Nat.{ℕ, _^_, _≤_, _<_}
 use native.Mathlib.Omega.{arith}
@@ -20,15 +20,17 @@ use Rattle.composer.proofs.ComposeLaws.{song-promise, events-promise}
 use Rattle.composer.proofs.form.Arranged.{arranged-promise}
 use Rattle.pages.specs.Writable.{FiniteNote, FiniteHit, FiniteEvents}
 use Rattle.pages.proofs.WritableLaws.{writable}
+use Rattle.pages.specs.declared.edition.Edition.{Edition}
 use Rattle.reader.specs.Composed.{composedSong}
-use Rattle.reader.specs.Value.{valid, Typed, Padded, NoteIn, HitIn, Value}
+use Rattle.reader.specs.Value.{valid, Typed, Padded, RoleIn, NoteIn, HitIn, Value}
 use Rattle.reader.proofs.ValueLaws.{value-valid, value-typed}
 
 -- ---- one event
-note-value : (x : Note) → noteBar x ≤ 7 → x .midi ≤ 127 → PlainNote x → FiniteNote x → NoteIn x
-note-value x bar midi p finite = record {
+note-value : (leads : Bool) (x : Note) → noteBar x ≤ 7 → x .midi ≤ 127 → RoleIn Edition.Two leads x → PlainNote x → FiniteNote x → NoteIn Edition.Two leads x
+note-value leads x bar midi role p finite = record {
   bar = omega arith;
   midi = midi;
+  role = role;
   spare = p .spare;
   numbers = finite;
   typed = record { at = p .at-fits; vel = p .vel-fits; dur = p .dur-fits };
@@ -63,10 +65,10 @@ module _ (style : Style) (seed : ℕ) where
       used = λ b h. record { size = song .range .chord-size b h; notes = λ k j. omega (arith, song .range .chords b k h j .most) };
       rest = λ i h k. absurd (omega arith);
     };
-    lead = lane-padded (song .lanes .lead) (λ i h bar. note-value _ bar (omega (arith, song .range .lead i h .most)) (song .plain .lead i h) (numbers .lead i h));
-    keys = lane-padded (song .lanes .keys) (λ i h bar. note-value _ bar (omega (arith, song .range .keys i h .most)) (song .plain .keys i h) (numbers .keys i h));
+    lead = lane-padded (song .lanes .lead) (λ i h bar. note-value true _ bar (omega (arith, song .range .lead i h .most)) (song .roles .lead i h) (song .plain .lead i h) (numbers .lead i h));
+    keys = lane-padded (song .lanes .keys) (λ i h bar. note-value false _ bar (omega (arith, song .range .keys i h .most)) (song .roles .keys i h) (song .plain .keys i h) (numbers .keys i h));
     hits = lane-padded (song .lanes .hits) (λ i h bar. hit-value _ bar (song .plain .hits i h) (numbers .hits i h));
-    bass = lane-padded (song .lanes .bass) (λ i h bar. note-value _ bar (omega (arith, song .range .bass i h .most)) (song .plain .bass i h) (numbers .bass i h));
+    bass = lane-padded (song .lanes .bass) (λ i h bar. note-value false _ bar (omega (arith, song .range .bass i h .most)) (song .roles .bass i h) (song .plain .bass i h) (numbers .bass i h));
     classes = record { size = song .scale-size; few = song .scale-most; used = λ k h. song .scale-classes k; rest = λ k h j. song .scale-rest k h };
     classes-least = song .scale-least;
     phrases = form .phrases;

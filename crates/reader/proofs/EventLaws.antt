@@ -1,5 +1,6 @@
 -- Notes, hits and whole lanes are read back as they were written. Assumes nothing.
-use mathlib.Core.Path.{_≡_, refl, ap, _∙_}
+use mathlib.Core.Path.{_≡_, refl, sym, ap, _∙_}
+use mathlib.Core.Bool.{Bool, true, false}
 use mathlib.Core.List.{List, [], _∷_, _++_, map, append-assoc}
 use Prim.Native.Nat.{ℕ, zero, suc, _+_, _*_, _<_}
 use native.Mathlib.Nat.{add-assoc, not-suc-le-zero, le-of-suc-le-suc, mul-suc, mul-zero}
@@ -9,20 +10,24 @@ use lib.Seq.{getD-append-add, ext-getD}
 use Rattle.laws.specs.Lists.{listTo, joined}
 use Rattle.laws.specs.Sorts.{All}
 use Rattle.laws.proofs.Lists.{list-to-at, length-list-to}
-use Rattle.composer.specs.Note.{kindNumberOf}
+use Rattle.composer.specs.Note.{roleNumberOf, kindNumberOf}
 use Rattle.composer.specs.Plain.{Fits32}
 use Rattle.composer.specs.declared.note.DrumKind.{DrumKind}
 use Rattle.composer.specs.declared.note.Hit.{Hit}
 use Rattle.composer.specs.declared.note.Note.{Note}
+use Rattle.composer.specs.declared.note.NoteRole.{NoteRole}
 use Rattle.pages.specs.Bytes.{byteAt, f32At, f32Bytes}
-use Rattle.pages.specs.Lane.{noteBytes, hitBytes}
-use Rattle.reader.specs.Codes.{kindCoded}
+use Rattle.pages.specs.Lane.{soundBytes, noteBytes, hitBytes}
+use Rattle.pages.specs.declared.edition.Edition.{Edition}
+use Rattle.reader.specs.Codes.{leadRoleCoded, roleAt, kindCoded}
 use Rattle.reader.specs.Song.{noteAt, hitAt}
+use Rattle.reader.specs.Value.{RoleIn}
 use Rattle.reader.proofs.NumberLaws.{Shifts, f32-back}
 
 -- ---- one event
--- floats of f32's values, and nothing in the gap
-pub record StoredNote (n : Note) : Type 0 where
+-- floats of f32's values, a role that its lane has, and nothing in the gap
+pub record StoredNote (edition : Edition) (leads : Bool) (n : Note) : Type 0 where
+  pub role : RoleIn edition leads n
   pub at : Fits32 (n .at)
   pub vel : Fits32 (n .vel)
   pub dur : Fits32 (n .dur)
@@ -33,21 +38,57 @@ pub record StoredHit (h : Hit) : Type 0 where
   pub gain : Fits32 (h .gain)
   pub spare : h .spare ≡ 0
 
-pub note-shifts : Shifts noteAt
-unfolding noteAt
-note-shifts xs ys k = simp (add-assoc, getD-append-add)
+pub note-shifts : (edition : Edition) (leads : Bool) → Shifts (noteAt edition leads)
+unfolding noteAt roleAt
+note-shifts Edition.One leads xs ys k = simp (add-assoc, getD-append-add)
+note-shifts Edition.Two leads xs ys k = simp (add-assoc, getD-append-add)
 
 pub hit-shifts : Shifts hitAt
 unfolding hitAt
 hit-shifts xs ys k = simp (add-assoc, getD-append-add)
 
-pub note-back : (n : Note) (rest : List ℕ) → StoredNote n → noteAt (noteBytes n ++ rest) 0 ≡ n
-unfolding noteAt noteBytes
-note-back n rest p =
-    let a : f32At (noteBytes n ++ rest) 1 ≡ n .at = f32-back (n .at) (n .midi ∷ (f32Bytes (n .vel) ++ (f32Bytes (n .dur) ++ rest))) (p .at) in
-    let b : f32At (noteBytes n ++ rest) 6 ≡ n .vel = f32-back (n .vel) (f32Bytes (n .dur) ++ rest) (p .vel) in
-    let c : f32At (noteBytes n ++ rest) 10 ≡ n .dur = f32-back (n .dur) rest (p .dur) in
-    rw (a, b, c, ← p .spare)
+lead-role-back : (r : NoteRole) → leadRoleCoded (roleNumberOf r) ≡ r
+lead-role-back NoteRole.Quote = refl
+lead-role-back NoteRole.Close = refl
+lead-role-back NoteRole.Peak = refl
+lead-role-back NoteRole.Resolve = refl
+lead-role-back NoteRole.ChordTone = refl
+lead-role-back NoteRole.Passing = refl
+lead-role-back NoteRole.Backing = refl
+
+role-back : (edition : Edition) (leads : Bool) (n : Note) (rest : List ℕ) → RoleIn edition leads n → roleAt edition leads (noteBytes edition n ++ rest) 14 ≡ n .role
+unfolding roleAt noteBytes soundBytes
+role-back Edition.One leads n rest p = sym p
+role-back Edition.Two true n rest p = lead-role-back (n .role)
+role-back Edition.Two false n rest p = rw p
+
+-- what both editions tell stands first in either
+sound-first : (edition : Edition) (n : Note) (rest : List ℕ) → (byteAt (noteBytes edition n ++ rest) 0 ≡ n .bar) × (byteAt (noteBytes edition n ++ rest) 5 ≡ n .midi)
+unfolding noteBytes soundBytes
+sound-first Edition.One n rest = (refl, refl)
+sound-first Edition.Two n rest = (refl, refl)
+
+floats-back : (edition : Edition) (leads : Bool) (n : Note) (rest : List ℕ) → StoredNote edition leads n
+    → (f32At (noteBytes edition n ++ rest) 1 ≡ n .at) × (f32At (noteBytes edition n ++ rest) 6 ≡ n .vel) × (f32At (noteBytes edition n ++ rest) 10 ≡ n .dur)
+unfolding noteBytes soundBytes
+floats-back Edition.One leads n rest p = (
+  f32-back (n .at) (n .midi ∷ (f32Bytes (n .vel) ++ (f32Bytes (n .dur) ++ rest))) (p .at),
+  f32-back (n .vel) (f32Bytes (n .dur) ++ rest) (p .vel),
+  f32-back (n .dur) rest (p .dur),
+)
+floats-back Edition.Two leads n rest p =
+    let last = roleNumberOf (n .role) ∷ rest in (
+      f32-back (n .at) (n .midi ∷ (f32Bytes (n .vel) ++ (f32Bytes (n .dur) ++ last))) (p .at),
+      f32-back (n .vel) (f32Bytes (n .dur) ++ last) (p .vel),
+      f32-back (n .dur) last (p .dur),
+    )
+
+pub note-back : (edition : Edition) (leads : Bool) (n : Note) (rest : List ℕ) → StoredNote edition leads n → noteAt edition leads (noteBytes edition n ++ rest) 0 ≡ n
+unfolding noteAt
+note-back edition leads n rest p =
+    let s = sound-first edition n rest in
+    let f = floats-back edition leads n rest p in
+    rw (s .0, s .1, f .0, f .1, f .2, role-back edition leads n rest (p .role), ← p .spare)
 
 kind-back : (k : DrumKind) → kindCoded (kindNumberOf k) ≡ k
 kind-back DrumKind.Kick = refl

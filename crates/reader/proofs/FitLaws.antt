@@ -9,7 +9,8 @@ use borrow.Author.Tests.{eqb-true, leb-true}
 use lib.Dec.{eqb, leb}
 use lib.ListN.{length, getD}
 use Rattle.pages.specs.Bytes.{byteAt}
-use Rattle.reader.specs.Layout.{startAt, sizeAt, widths, least, most, lengthFits, fieldFits, formed}
+use Rattle.pages.specs.declared.edition.Edition.{Edition}
+use Rattle.reader.specs.Layout.{editionIn, startAt, sizeAt, widths, least, most, lengthFits, fieldFits, led, formed}
 use Rattle.reader.specs.Tests.{allTo}
 use Rattle.reader.proofs.TestLaws.{both, all-to-at}
 
@@ -19,10 +20,10 @@ pub record Spans (w lo hi n : ℕ) : Type 0 where
   pub least : lo ≤ n / w
   pub most : n / w ≤ hi
 
-pub length-spans : (k n : ℕ) → lengthFits k n ≡ true → Spans (getD widths k 0) (getD least k 0) (getD most k 0) n
+pub length-spans : (edition : Edition) (k n : ℕ) → lengthFits edition k n ≡ true → Spans (getD (widths edition) k 0) (getD least k 0) (getD most k 0) n
 unfolding lengthFits
-length-spans k n e =
-    let w = getD widths k 0 in
+length-spans edition k n e =
+    let w = getD (widths edition) k 0 in
     let a = both (eqb (n % w) 0 && leb (getD least k 0) (n / w)) (leb (n / w) (getD most k 0) && not (eqb n 62)) e in
     let b = both (eqb (n % w) 0) (leb (getD least k 0) (n / w)) (a .0) in
     let c = both (leb (n / w) (getD most k 0)) (not (eqb n 62)) (a .1) in
@@ -43,19 +44,25 @@ module _ (bytes : List ℕ) (ok : formed bytes ≡ true) where
   -- the tenth field ends where the bytes do
   pub last-start : startAt bytes 10 ≡ length bytes
   unfolding formed
-  last-start = eqb-true (startAt bytes 10) (length bytes) (both (allTo (fieldFits bytes) 10) (eqb (startAt bytes 10) (length bytes)) ok .1)
+  last-start = eqb-true (startAt bytes 10) (length bytes) (both (led (editionIn bytes) bytes && allTo (fieldFits bytes) 10) (eqb (startAt bytes 10) (length bytes)) ok .1)
 
-  field-told : (k : ℕ) → k < 10 → (eqb (byteAt bytes (startAt bytes k)) (k + 1) ≡ true) × (lengthFits k (sizeAt bytes k) ≡ true)
-  unfolding formed fieldFits
-  field-told k h =
-      let all = both (allTo (fieldFits bytes) 10) (eqb (startAt bytes 10) (length bytes)) ok .0 in
-      both (eqb (byteAt bytes (startAt bytes k)) (k + 1)) (lengthFits k (sizeAt bytes k)) (all-to-at (fieldFits bytes) 10 all k h)
+  first-told : (led (editionIn bytes) bytes ≡ true) × (allTo (fieldFits bytes) 10 ≡ true)
+  unfolding formed
+  first-told = both (led (editionIn bytes) bytes) (allTo (fieldFits bytes) 10) (both (led (editionIn bytes) bytes && allTo (fieldFits bytes) 10) (eqb (startAt bytes 10) (length bytes)) ok .0)
+
+  -- the edition's own field is as it has to be
+  pub led-read : led (editionIn bytes) bytes ≡ true
+  led-read = first-told .0
+
+  field-told : (k : ℕ) → k < 10 → (eqb (byteAt bytes (startAt bytes k)) (k + 1) ≡ true) × (lengthFits (editionIn bytes) k (sizeAt bytes k) ≡ true)
+  unfolding fieldFits
+  field-told k h = both (eqb (byteAt bytes (startAt bytes k)) (k + 1)) (lengthFits (editionIn bytes) k (sizeAt bytes k)) (all-to-at (fieldFits bytes) 10 (first-told .1) k h)
 
   pub tag-read : (k : ℕ) → k < 10 → byteAt bytes (startAt bytes k) ≡ k + 1
   tag-read k h = eqb-true (byteAt bytes (startAt bytes k)) (k + 1) (field-told k h .0)
 
-  pub formed-fits : (k : ℕ) → k < 10 → lengthFits k (sizeAt bytes k) ≡ true
+  pub formed-fits : (k : ℕ) → k < 10 → lengthFits (editionIn bytes) k (sizeAt bytes k) ≡ true
   formed-fits k h = field-told k h .1
 
-  pub entries : (k : ℕ) → k < 10 → Spans (getD widths k 0) (getD least k 0) (getD most k 0) (sizeAt bytes k)
-  entries k h = length-spans k (sizeAt bytes k) (formed-fits k h)
+  pub entries : (k : ℕ) → k < 10 → Spans (getD (widths (editionIn bytes)) k 0) (getD least k 0) (getD most k 0) (sizeAt bytes k)
+  entries k h = length-spans (editionIn bytes) k (sizeAt bytes k) (formed-fits k h)

@@ -6,7 +6,10 @@ use native.Mathlib.Nat.{add-zero}
 use native.Mathlib.Omega.{arith}
 use lib.ListN.{length, length-append}
 use Rattle.pages.specs.Bytes.{byteAt, be16At, head, field}
-use Rattle.reader.specs.Layout.{startAt, bodyAt, sizeAt}
+use Rattle.pages.specs.Edition.{editionField, editionSize}
+use Rattle.pages.specs.declared.edition.Edition.{Edition}
+use Rattle.pages.proofs.BytesLaws.{edition-length}
+use Rattle.reader.specs.Layout.{editionIn, startAt, bodyAt, sizeAt}
 use Rattle.reader.proofs.NumberLaws.{Shifts, byte-shifts, be16-shifts, be16-back}
 
 -- field k of the bytes, between what stands before it and behind it
@@ -46,9 +49,15 @@ module _ {bytes : List ℕ} {k tag : ℕ} {body post : List ℕ} (s : Stands byt
   pub read-first : {A : Type 0} (f : List ℕ → ℕ → A) → Shifts f → f bytes (bodyAt bytes k) ≡ f (body ++ post) 0
   read-first f shifts = ap (f bytes) (sym (add-zero (bodyAt bytes k))) ∙ read-body f shifts 0
 
-pub stands-first : (tag : ℕ) (body post : List ℕ) → Stands (field tag body ++ post) 0 tag body post
+-- the first of the ten, behind the edition's own
+pub edition-told : (edition : Edition) (body post : List ℕ) → editionIn (editionField edition ++ (field 1 body ++ post)) ≡ edition
+unfolding editionIn field
+edition-told Edition.One body post = refl
+edition-told Edition.Two body post = refl
+
+pub stands-first : (edition : Edition) (body post : List ℕ) → Stands (editionField edition ++ (field 1 body ++ post)) 0 1 body post
 unfolding startAt
-stands-first tag body post = record { pre = []; split = refl; place = refl }
+stands-first edition body post = record { pre = editionField edition; split = refl; place = ap editionSize (edition-told edition body post) ∙ sym (edition-length edition) }
 
 pub stands-next : {bytes : List ℕ} {k tag next : ℕ} {body after post : List ℕ} → Stands bytes k tag body (field next after ++ post) → Stands bytes (suc k) next after post
 stands-next {bytes} {k} {tag} {next} {body} {after} {post} s = record {

@@ -27,3 +27,4 @@ pub mod TestLaws
 pub mod TestedLaws
 pub mod TypesLaws
 pub mod ValueLaws
+pub mod WidthLaws

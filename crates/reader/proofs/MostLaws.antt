@@ -1,4 +1,5 @@
--- No value's sheet is longer than 5,164 bytes, nor is anything that is read and written again. Assumes nothing.
+-- No value's sheet is longer than a sheet of its edition can be, and what is read and written again has at most 5,456
+-- bytes. Assumes nothing.
 use mathlib.Core.Path.{_≡_, refl}
 use mathlib.Core.Bool.{true}
 use mathlib.Core.List.{List}
@@ -7,8 +8,10 @@ use native.Mathlib.Omega.{arith}
 use lib.ListN.{length}
 use Rattle.composer.specs.declared.refusal.Outcome.{Outcome}
 use Rattle.pages.specs.Answer.{Asked, bytesOf, askedBy}
+use Rattle.pages.specs.Edition.{sheetMost}
 use Rattle.pages.specs.Writable.{SizedLanes}
-use Rattle.pages.proofs.SheetLaws.{chords-length, sheet-length}
+use Rattle.pages.specs.declared.edition.Edition.{Edition}
+use Rattle.pages.proofs.SheetLaws.{chords-length, sheet-length, counts-most}
 use Rattle.reader.specs.Layout.{formed}
 use Rattle.reader.specs.Read.{readOf, writeAsked, rereadAsked}
 use Rattle.reader.specs.Song.{songIn, sheetOf}
@@ -27,26 +30,31 @@ module _ (v : Song) (p : Value v) where
     bass = record { size = p .bass .size; few = p .bass .few };
   }
 
-  most : length (sheetOf v) ≤ 5164
+  most : length (sheetOf v) ≤ sheetMost (v .edition)
   most =
       let chords = chords-length (v .score .«bar_chords») (p .chords .size) (λ b h. p .chords .used b h .size) in
-      let size = sheet-length (v .seed) (v .score) (v .scale) (v .form) lanes chords (omega (arith, p .classes .few, p .classes .size)) (omega (arith, p .plays .few, p .plays .size)) in
-      omega (arith, size, p .classes .few, p .plays .few, p .lead .few, p .keys .few, p .hits .few, p .bass .few)
+      let size = sheet-length (v .edition) (v .seed) (v .score) (v .scale) (v .form) lanes chords (omega (arith, p .classes .few, p .classes .size)) (omega (arith, p .plays .few, p .plays .size)) in
+      rw size (counts-most (v .edition) _ _ _ _ _ _ (p .classes .few) (p .lead .few) (p .keys .few) (p .hits .few) (p .bass .few) (p .plays .few))
 
-pub value-most : (v : Song) → Typed v → valid v ≡ true → length (sheetOf v) ≤ 5164
+-- edition 2 has the longest
+edition-most : (edition : Edition) → sheetMost edition ≤ sheetMost Edition.Two
+edition-most Edition.One = omega arith
+edition-most Edition.Two = omega arith
+
+pub value-most : (v : Song) → Typed v → valid v ≡ true → length (sheetOf v) ≤ sheetMost (v .edition)
 value-most v t ok = most v (tested-value v (t .shape) ok)
 
-read-most : (bytes : List ℕ) → readOf bytes .outcome ≡ Outcome.Done → length (bytesOf (writeAsked (readOf bytes .song))) ≤ 5164
+read-most : (bytes : List ℕ) → readOf bytes .outcome ≡ Outcome.Done → length (bytesOf (writeAsked (readOf bytes .song))) ≤ sheetMost Edition.Two
 read-most bytes done =
     let ok = read-valid bytes done in
     let e = read-song bytes done in
     let p = tested-value (songIn bytes) (shaped-read bytes (passes bytes done .formed)) (rw e at ok) in
-    rw (asked-valid (readOf bytes .song) ok, e) (most (songIn bytes) p)
+    rw (asked-valid (readOf bytes .song) ok, e) (omega (arith, most (songIn bytes) p, edition-most (songIn bytes .edition)))
 
-by-outcome : (o : Outcome) (a : Asked) → (o ≡ Outcome.Done → length (bytesOf a) ≤ 5164) → length (bytesOf (askedBy o a)) ≤ 5164
+by-outcome : (o : Outcome) (a : Asked) → (o ≡ Outcome.Done → length (bytesOf a) ≤ sheetMost Edition.Two) → length (bytesOf (askedBy o a)) ≤ sheetMost Edition.Two
 by-outcome Outcome.Done a h = h refl
 by-outcome (Outcome.Refused r) a h = omega arith
 
-pub reread-most : (bytes : List ℕ) → length (bytesOf (rereadAsked bytes)) ≤ 5164
+pub reread-most : (bytes : List ℕ) → length (bytesOf (rereadAsked bytes)) ≤ sheetMost Edition.Two
 unfolding rereadAsked
 reread-most bytes = by-outcome (readOf bytes .outcome) (writeAsked (readOf bytes .song)) (read-most bytes)

@@ -13,6 +13,7 @@ use Rattle.composer.specs.declared.style.Style.{Style}
 use Rattle.composer.proofs.ComposeLaws.{song-promise}
 use Rattle.pages.specs.Bytes.{byteAt, field}
 use Rattle.pages.specs.Sheet.{songBytes, lanesBytes, formBytes, sheetBytes}
+use Rattle.pages.specs.declared.edition.Edition.{Edition}
 use Rattle.reader.specs.Composed.{composedSong}
 use Rattle.reader.specs.Layout.{sizeAt}
 use Rattle.reader.specs.Promise.{NoSeed}
@@ -37,10 +38,10 @@ seed-hits style seed =
 
 -- ---- the shortest song of zeros has none
 abbrev bare : Song
-bare = blankSong shortest
+bare = blankSong Edition.Two (shortest Edition.Two)
 
 bare-value : Value bare
-bare-value = blank-value shortest shortest-fits
+bare-value = blank-value Edition.Two (shortest Edition.Two) (shortest-fits Edition.Two)
 
 abbrev bytes : List ℕ
 bytes = sheetOf bare

@@ -10,7 +10,7 @@ use Rattle.composer.specs.declared.refusal.Outcome.{Outcome}
 use Rattle.composer.specs.declared.style.Style.{Style}
 use Rattle.composer.proofs.ComposeLaws.{composed-done}
 use Rattle.pages.specs.Answer.{Asked, Writes, bytesOf, askedBy, CallAnswers}
-use Rattle.pages.specs.Sheet.{sheetAsked}
+use Rattle.pages.specs.Sheet.{sheetIn, sheetAsked}
 use Rattle.pages.proofs.AnswerLaws.{refused, call-answers, room-answers}
 use Rattle.reader.specs.Codes.{coded}
 use Rattle.reader.specs.Composed.{composedSong}
@@ -76,7 +76,7 @@ again v bytes octets e =
 
 -- ---- the sheets of seeds
 seed-asked : (style : Style) (seed : ℕ) → sheetAsked (styleNumberOf style) seed ≡ Writes (sheetOf (composedSong style seed))
-unfolding sheetAsked
+unfolding sheetIn
 seed-asked Style.Hiphop seed = rw (composed-done Style.Hiphop seed)
 seed-asked Style.Sleep seed = rw (composed-done Style.Sleep seed)
 

@@ -7,12 +7,13 @@ use Prim.Native.Nat.{ℕ, zero, suc, _+_, _≤_, _<_}
 use native.Mathlib.Nat.{eq-or-lt-of-le, le-of-suc-le-suc}
 use native.Mathlib.Omega.{arith}
 use lib.ListN.{length}
+use Rattle.pages.specs.Edition.{editionSize}
 use Rattle.reader.specs.Inner.Layout.{Roomy}
-use Rattle.reader.specs.Layout.{startAt, bodyAt, sizeAt, most, formed}
-use Rattle.reader.proofs.FitLaws.{last-start, entries}
+use Rattle.reader.specs.Layout.{editionIn, startAt, bodyAt, sizeAt, most, formed}
+use Rattle.reader.proofs.FitLaws.{whole-size, last-start, entries}
 
--- ---- the first field begins the bytes, and each other begins where the one before it ends
-pub first-start : (bytes : List ℕ) → startAt bytes 0 ≡ 0
+-- ---- the first of the ten stands behind the edition's own, and each other begins where the one before it ends
+pub first-start : (bytes : List ℕ) → startAt bytes 0 ≡ editionSize (editionIn bytes)
 unfolding startAt
 first-start bytes = refl
 
@@ -39,13 +40,13 @@ module _ (bytes : List ℕ) (ok : formed bytes ≡ true) where
     chords = omega (arith, entries bytes ok 2 (omega arith), body-ends 2 (omega arith));
     scale = body-ends 3 (omega arith);
     scale-few = omega (arith, entries bytes ok 3 (omega arith));
-    lead = omega (arith, entries bytes ok 4 (omega arith), body-ends 4 (omega arith));
+    lead = omega (arith, whole-size (entries bytes ok 4 (omega arith)), body-ends 4 (omega arith));
     lead-few = entries bytes ok 4 (omega arith) .most;
-    keys = omega (arith, entries bytes ok 5 (omega arith), body-ends 5 (omega arith));
+    keys = omega (arith, whole-size (entries bytes ok 5 (omega arith)), body-ends 5 (omega arith));
     keys-few = entries bytes ok 5 (omega arith) .most;
     hits = omega (arith, entries bytes ok 6 (omega arith), body-ends 6 (omega arith));
     hits-few = entries bytes ok 6 (omega arith) .most;
-    bass = omega (arith, entries bytes ok 7 (omega arith), body-ends 7 (omega arith));
+    bass = omega (arith, whole-size (entries bytes ok 7 (omega arith)), body-ends 7 (omega arith));
     bass-few = entries bytes ok 7 (omega arith) .most;
     ends = omega (arith, entries bytes ok 8 (omega arith), body-ends 8 (omega arith));
     plays = body-ends 9 (omega arith);

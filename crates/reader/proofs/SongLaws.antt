@@ -2,7 +2,7 @@
 use mathlib.Core.Path.{_≡_, refl, sym, ap, _∙_}
 use mathlib.Core.Bool.{Bool, true, false, cond}
 use mathlib.Core.List.{List, [], _∷_, _++_, map, append-assoc, append-nil}
-use Prim.Native.Nat.{ℕ, _+_, _*_, _≤_}
+use Prim.Native.Nat.{ℕ, _+_, _*_, _/_, _≤_}
 use native.Mathlib.Omega.{arith}
 use lib.Dec.{eqb}
 use lib.ListN.{length, getD, take, length-map, List·getD-map}
@@ -32,18 +32,20 @@ use Rattle.composer.specs.declared.form.plays.Plays.{Plays}
 use Rattle.composer.specs.declared.style.Style.{Style}
 use Rattle.composer.specs.declared.voice.LeadVoice.{LeadVoice}
 use Rattle.pages.specs.Bytes.{byteAt, be64, be64At, f32Bytes, f32At, field}
+use Rattle.pages.specs.Edition.{noteWidth, editionField}
 use Rattle.pages.specs.Lane.{noteBytes, hitBytes, eventsOf}
 use Rattle.pages.specs.Sheet.{songBytes, lanesBytes, formBytes, playsBytes, sheetBytes}
+use Rattle.pages.specs.declared.edition.Edition.{Edition}
 use Rattle.pages.specs.declared.lane.Lane.{Lane}
 use Rattle.pages.proofs.BytesLaws.{be64-back}
 use Rattle.pages.proofs.LaneLaws.{note-width, hit-width}
-use Rattle.reader.specs.Layout.{bodyAt, sizeAt}
+use Rattle.reader.specs.Layout.{editionIn, bodyAt, sizeAt}
 use Rattle.reader.specs.Codes.{voiceCoded, endCoded, outroCoded, playsCoded}
 use Rattle.reader.specs.Song.{noteAt, hitAt, notesAt, hitsAt, chordFrom, chordsFrom, scaleAt, noteCountIn, hitCountIn, scoreIn, playsFrom, formIn, songIn, sheetOf}
 use Rattle.reader.specs.Value.{Any}
 use Rattle.reader.specs.declared.song.Song.{Song}
 use Rattle.reader.proofs.EventLaws.{StoredNote, StoredHit, note-shifts, hit-shifts, note-back, hit-back, entries-back, bytes-back}
-use Rattle.reader.proofs.LayoutLaws.{Stands, size-is, read-body, read-first, stands-first, stands-next}
+use Rattle.reader.proofs.LayoutLaws.{Stands, size-is, read-body, read-first, edition-told, stands-first, stands-next}
 use Rattle.reader.proofs.NumberLaws.{Shifts, byte-shifts, be64-shifts, f32-shifts, f32-back}
 
 -- ---- what it takes
@@ -60,10 +62,10 @@ pub record StoredChord (c : Chord) : Type 0 where
 pub record StoredSong (v : Song) : Type 0 where
   pub bpm : Fits32 (v .score .bpm)
   pub chords : Kept StoredChord noChord 8 (v .score .«bar_chords») 8
-  pub lead : Kept StoredNote noNote 56 (v .score .lead) (v .score .«lead_count»)
-  pub keys : Kept StoredNote noNote 128 (v .score .keys) (v .score .«keys_count»)
+  pub lead : Kept (StoredNote (v .edition) true) noNote 56 (v .score .lead) (v .score .«lead_count»)
+  pub keys : Kept (StoredNote (v .edition) false) noNote 128 (v .score .keys) (v .score .«keys_count»)
   pub hits : Kept StoredHit noHit 98 (v .score .hits) (v .score .«hit_count»)
-  pub bass : Kept StoredNote noNote 104 (v .score .bass) (v .score .«bass_count»)
+  pub bass : Kept (StoredNote (v .edition) false) noNote 104 (v .score .bass) (v .score .«bass_count»)
   pub scale : Kept Any 0 6 (v .scale .pcs) (v .scale .n)
   pub plays : Kept Any silent 64 (v .form .plays) (v .form .bars)
 
@@ -167,7 +169,7 @@ module _ {A : Type 0} (w : ℕ) (f : List ℕ → ℕ → A) (g : A → List ℕ
   pub lane-back : (m : ℕ) → m ≡ n → pad z cap (listTo (λ i. f bytes (bodyAt bytes k + w * i)) m) ≡ xs
   lane-back m e = rw e (ap (pad z cap) lane-list ∙ p .rest)
 
--- ---- the ten fields of a sheet
+-- ---- the fields of a sheet
 module _ (v : Song) where
   abbrev name : List ℕ
   name = styleNumberOf (v .score .style) ∷ (be64 (v .seed) ++ (voiceNumberOf (v .score .«lead_voice») ∷ []))
@@ -184,16 +186,16 @@ module _ (v : Song) where
   from8 = field 9 ends ++ from9
 
   abbrev pub from7 : List ℕ
-  from7 = field 8 (joined (eventsOf (v .score) Lane.Bass)) ++ from8
+  from7 = field 8 (joined (eventsOf (v .edition) (v .score) Lane.Bass)) ++ from8
 
   abbrev from6 : List ℕ
-  from6 = field 7 (joined (eventsOf (v .score) Lane.Hits)) ++ from7
+  from6 = field 7 (joined (eventsOf (v .edition) (v .score) Lane.Hits)) ++ from7
 
   abbrev from5 : List ℕ
-  from5 = field 6 (joined (eventsOf (v .score) Lane.Keys)) ++ from6
+  from5 = field 6 (joined (eventsOf (v .edition) (v .score) Lane.Keys)) ++ from6
 
   abbrev from4 : List ℕ
-  from4 = field 5 (joined (eventsOf (v .score) Lane.Lead)) ++ from5
+  from4 = field 5 (joined (eventsOf (v .edition) (v .score) Lane.Lead)) ++ from5
 
   abbrev from3 : List ℕ
   from3 = field 4 (pcsOf (v .scale)) ++ from4
@@ -204,15 +206,22 @@ module _ (v : Song) where
   abbrev from1 : List ℕ
   from1 = field 2 (f32Bytes (v .score .bpm)) ++ from2
 
+  -- the ten, and the edition's own before them
+  abbrev pub theTen : List ℕ
+  theTen = field 1 name ++ from1
+
   abbrev pub fields : List ℕ
-  fields = field 1 name ++ from1
+  fields = editionField (v .edition) ++ theTen
+
+  pub edition-read : editionIn fields ≡ v .edition
+  edition-read = edition-told (v .edition) name from1
 
   pub as-fields : sheetOf v ≡ fields
   unfolding sheetBytes songBytes lanesBytes formBytes
   as-fields = simp (append-assoc, append-nil)
 
   pub name-stands : Stands fields 0 1 name from1
-  name-stands = stands-first 1 name from1
+  name-stands = stands-first (v .edition) name from1
 
   pub tempo-stands : Stands fields 1 2 (f32Bytes (v .score .bpm)) from2
   tempo-stands = stands-next name-stands
@@ -223,16 +232,16 @@ module _ (v : Song) where
   pub scale-stands : Stands fields 3 4 (pcsOf (v .scale)) from4
   scale-stands = stands-next chords-stand
 
-  pub lead-stands : Stands fields 4 5 (joined (eventsOf (v .score) Lane.Lead)) from5
+  pub lead-stands : Stands fields 4 5 (joined (eventsOf (v .edition) (v .score) Lane.Lead)) from5
   lead-stands = stands-next scale-stands
 
-  pub keys-stand : Stands fields 5 6 (joined (eventsOf (v .score) Lane.Keys)) from6
+  pub keys-stand : Stands fields 5 6 (joined (eventsOf (v .edition) (v .score) Lane.Keys)) from6
   keys-stand = stands-next lead-stands
 
-  pub hits-stand : Stands fields 6 7 (joined (eventsOf (v .score) Lane.Hits)) from7
+  pub hits-stand : Stands fields 6 7 (joined (eventsOf (v .edition) (v .score) Lane.Hits)) from7
   hits-stand = stands-next keys-stand
 
-  pub bass-stands : Stands fields 7 8 (joined (eventsOf (v .score) Lane.Bass)) from8
+  pub bass-stands : Stands fields 7 8 (joined (eventsOf (v .edition) (v .score) Lane.Bass)) from8
   bass-stands = stands-next hits-stand
 
   pub ends-stand : Stands fields 8 9 ends from9
@@ -241,10 +250,18 @@ module _ (v : Song) where
   pub plays-stand : Stands fields 9 10 (playsBytes (v .form)) []
   plays-stand = stands-next ends-stand
 
+-- as many notes as were written
+count-back : (edition : Edition) (n : ℕ) → noteWidth edition * n / noteWidth edition ≡ n
+count-back Edition.One n = omega arith
+count-back Edition.Two n = omega arith
+
 -- ---- read back, field by field
 module _ (v : Song) (p : StoredSong v) where
   abbrev bytes : List ℕ
   bytes = fields v
+
+  abbrev e : Edition
+  e = v .edition
 
   style-read : styleBy (byteAt bytes (bodyAt bytes 0)) ≡ v .score .style
   style-read = ap styleBy (read-first (name-stands v) byteAt byte-shifts) ∙ style-back (v .score .style)
@@ -283,23 +300,23 @@ module _ (v : Song) (p : StoredSong v) where
   scale-read = rw (scale-size, scale-list, p .scale .rest)
 
   -- the lanes
-  pub lead-size : sizeAt bytes 4 ≡ 14 * v .score .«lead_count»
-  lead-size = lane-size 14 noteAt noteBytes StoredNote (λ n q. note-width n) note-shifts note-back noNote 56 (v .score .lead) (v .score .«lead_count») (p .lead) (lead-stands v)
+  pub lead-size : sizeAt bytes 4 ≡ noteWidth e * v .score .«lead_count»
+  lead-size = lane-size (noteWidth e) (noteAt e true) (noteBytes e) (StoredNote e true) (λ n q. note-width e n) (note-shifts e true) (note-back e true) noNote 56 (v .score .lead) (v .score .«lead_count») (p .lead) (lead-stands v)
 
   lead-count : noteCountIn bytes 4 ≡ v .score .«lead_count»
-  lead-count = omega (arith, lead-size)
+  lead-count = rw (edition-read v, lead-size) (count-back e (v .score .«lead_count»))
 
-  lead-read : pad noNote 56 (notesAt bytes (bodyAt bytes 4) (noteCountIn bytes 4)) ≡ v .score .lead
-  lead-read = lane-back 14 noteAt noteBytes StoredNote (λ n q. note-width n) note-shifts note-back noNote 56 (v .score .lead) (v .score .«lead_count») (p .lead) (lead-stands v) (noteCountIn bytes 4) lead-count
+  lead-read : pad noNote 56 (notesAt (editionIn bytes) true bytes (bodyAt bytes 4) (noteCountIn bytes 4)) ≡ v .score .lead
+  lead-read = ap (λ (x : Edition). pad noNote 56 (notesAt x true bytes (bodyAt bytes 4) (noteCountIn bytes 4))) (edition-read v) ∙ lane-back (noteWidth e) (noteAt e true) (noteBytes e) (StoredNote e true) (λ n q. note-width e n) (note-shifts e true) (note-back e true) noNote 56 (v .score .lead) (v .score .«lead_count») (p .lead) (lead-stands v) (noteCountIn bytes 4) lead-count
 
-  pub keys-size : sizeAt bytes 5 ≡ 14 * v .score .«keys_count»
-  keys-size = lane-size 14 noteAt noteBytes StoredNote (λ n q. note-width n) note-shifts note-back noNote 128 (v .score .keys) (v .score .«keys_count») (p .keys) (keys-stand v)
+  pub keys-size : sizeAt bytes 5 ≡ noteWidth e * v .score .«keys_count»
+  keys-size = lane-size (noteWidth e) (noteAt e false) (noteBytes e) (StoredNote e false) (λ n q. note-width e n) (note-shifts e false) (note-back e false) noNote 128 (v .score .keys) (v .score .«keys_count») (p .keys) (keys-stand v)
 
   keys-count : noteCountIn bytes 5 ≡ v .score .«keys_count»
-  keys-count = omega (arith, keys-size)
+  keys-count = rw (edition-read v, keys-size) (count-back e (v .score .«keys_count»))
 
-  keys-read : pad noNote 128 (notesAt bytes (bodyAt bytes 5) (noteCountIn bytes 5)) ≡ v .score .keys
-  keys-read = lane-back 14 noteAt noteBytes StoredNote (λ n q. note-width n) note-shifts note-back noNote 128 (v .score .keys) (v .score .«keys_count») (p .keys) (keys-stand v) (noteCountIn bytes 5) keys-count
+  keys-read : pad noNote 128 (notesAt (editionIn bytes) false bytes (bodyAt bytes 5) (noteCountIn bytes 5)) ≡ v .score .keys
+  keys-read = ap (λ (x : Edition). pad noNote 128 (notesAt x false bytes (bodyAt bytes 5) (noteCountIn bytes 5))) (edition-read v) ∙ lane-back (noteWidth e) (noteAt e false) (noteBytes e) (StoredNote e false) (λ n q. note-width e n) (note-shifts e false) (note-back e false) noNote 128 (v .score .keys) (v .score .«keys_count») (p .keys) (keys-stand v) (noteCountIn bytes 5) keys-count
 
   pub hits-size : sizeAt bytes 6 ≡ 10 * v .score .«hit_count»
   hits-size = lane-size 10 hitAt hitBytes StoredHit (λ h q. hit-width h) hit-shifts hit-back noHit 98 (v .score .hits) (v .score .«hit_count») (p .hits) (hits-stand v)
@@ -310,14 +327,14 @@ module _ (v : Song) (p : StoredSong v) where
   hits-read : pad noHit 98 (hitsAt bytes (bodyAt bytes 6) (hitCountIn bytes 6)) ≡ v .score .hits
   hits-read = lane-back 10 hitAt hitBytes StoredHit (λ h q. hit-width h) hit-shifts hit-back noHit 98 (v .score .hits) (v .score .«hit_count») (p .hits) (hits-stand v) (hitCountIn bytes 6) hit-count
 
-  pub bass-size : sizeAt bytes 7 ≡ 14 * v .score .«bass_count»
-  bass-size = lane-size 14 noteAt noteBytes StoredNote (λ n q. note-width n) note-shifts note-back noNote 104 (v .score .bass) (v .score .«bass_count») (p .bass) (bass-stands v)
+  pub bass-size : sizeAt bytes 7 ≡ noteWidth e * v .score .«bass_count»
+  bass-size = lane-size (noteWidth e) (noteAt e false) (noteBytes e) (StoredNote e false) (λ n q. note-width e n) (note-shifts e false) (note-back e false) noNote 104 (v .score .bass) (v .score .«bass_count») (p .bass) (bass-stands v)
 
   bass-count : noteCountIn bytes 7 ≡ v .score .«bass_count»
-  bass-count = omega (arith, bass-size)
+  bass-count = rw (edition-read v, bass-size) (count-back e (v .score .«bass_count»))
 
-  bass-read : pad noNote 104 (notesAt bytes (bodyAt bytes 7) (noteCountIn bytes 7)) ≡ v .score .bass
-  bass-read = lane-back 14 noteAt noteBytes StoredNote (λ n q. note-width n) note-shifts note-back noNote 104 (v .score .bass) (v .score .«bass_count») (p .bass) (bass-stands v) (noteCountIn bytes 7) bass-count
+  bass-read : pad noNote 104 (notesAt (editionIn bytes) false bytes (bodyAt bytes 7) (noteCountIn bytes 7)) ≡ v .score .bass
+  bass-read = ap (λ (x : Edition). pad noNote 104 (notesAt x false bytes (bodyAt bytes 7) (noteCountIn bytes 7))) (edition-read v) ∙ lane-back (noteWidth e) (noteAt e false) (noteBytes e) (StoredNote e false) (λ n q. note-width e n) (note-shifts e false) (note-back e false) noNote 104 (v .score .bass) (v .score .«bass_count») (p .bass) (bass-stands v) (noteCountIn bytes 7) bass-count
 
   score-read : scoreIn bytes ≡ v .score
   unfolding scoreIn
@@ -361,4 +378,4 @@ module _ (v : Song) (p : StoredSong v) where
   -- the song
   pub song-back : songIn (sheetOf v) ≡ v
   unfolding songIn
-  song-back = rw (as-fields v, seed-read, score-read, scale-read, form-read)
+  song-back = rw (as-fields v, edition-read v, seed-read, score-read, scale-read, form-read)

@@ -1,6 +1,6 @@
 -- The other way round: what the tests of a value say of it, one by one. Assumes nothing.
 use mathlib.Core.Path.{_≡_, refl, sym, ap, _∙_, subst}
-use mathlib.Core.Bool.{Bool, true, _&&_, _||_}
+use mathlib.Core.Bool.{Bool, true, false, _&&_, _||_}
 use mathlib.Core.List.{List}
 use Prim.Native.Nat.{ℕ, _≤_, _<_}
 use native.Mathlib.Omega.{arith}
@@ -13,7 +13,7 @@ use lib.ListN.{length, getD}
 use Rattle.composer.specs.Chord.{pastChord, noChord}
 use Rattle.composer.specs.Form.{partsOf}
 use Rattle.composer.specs.Form.Plays.{bitsOf, silent}
-use Rattle.composer.specs.Note.{zero32, noNote, pastNote, noHit, pastHit, kindNumberOf}
+use Rattle.composer.specs.Note.{zero32, noNote, pastNote, noHit, pastHit, roleNumberOf, kindNumberOf}
 use Rattle.composer.specs.Plain.{Fits32}
 use Rattle.composer.specs.declared.chord.Chord.{Chord}
 use Rattle.composer.specs.declared.form.Form.{Form}
@@ -22,14 +22,16 @@ use Rattle.composer.specs.declared.harmony.Scale.{Scale}
 use Rattle.composer.specs.declared.note.DrumKind.{DrumKind}
 use Rattle.composer.specs.declared.note.Hit.{Hit}
 use Rattle.composer.specs.declared.note.Note.{Note}
+use Rattle.composer.specs.declared.note.NoteRole.{NoteRole}
 use Rattle.composer.specs.declared.score.Score.{Score}
 use Rattle.pages.specs.Writable.{FiniteNote, FiniteHit, Writable}
+use Rattle.pages.specs.declared.edition.Edition.{Edition}
 use Rattle.reader.specs.Cleared.{isZero, noteZero, hitZero, notesZero, hitsZero, scaleZero, playsZero, scoreZero, cleared}
 use Rattle.reader.specs.Codes.{playsCoded}
 use Rattle.reader.specs.Promise.{ValueTells}
 use Rattle.reader.specs.Tests.{allTo}
-use Rattle.reader.specs.Value.{valid, TypedNote, TypedHit, TypedLane, Shaped, Typed, Padded, Any, NoteIn, HitIn, ChordIn, Value}
-use Rattle.reader.specs.Within.{noteWithin, hitWithin, notesWithin, hitsWithin, chordWithin, chordsWithin, scaleWithin, formWithin, scoreWithin, within}
+use Rattle.reader.specs.Value.{valid, TypedNote, TypedHit, TypedLane, Shaped, Typed, Padded, Any, RoleIn, NoteIn, HitIn, ChordIn, Value}
+use Rattle.reader.specs.Within.{roleWithin, noteWithin, hitWithin, notesWithin, hitsWithin, chordWithin, chordsWithin, scaleWithin, formWithin, scoreWithin, within}
 use Rattle.reader.specs.declared.song.Song.{Song}
 use Rattle.reader.proofs.BarsLaws.{song-bars}
 use Rattle.reader.proofs.SongLaws.{plays-back}
@@ -40,16 +42,33 @@ yes : (t : Bool) → t ≡ true → T t
 yes t e = subst T (sym e) tt
 
 -- ---- an event in range
-pub note-told : (n : Note) → noteWithin n ≡ true → (n .bar < 8) × (n .midi ≤ 127) × (n .spare ≡ 0) × FiniteNote n
+backing-is : (r : NoteRole) → eqb (roleNumberOf r) 6 ≡ true → r ≡ NoteRole.Backing
+backing-is NoteRole.Quote e = absurd (let z : _≡_ {A = ℕ} 0 1 = cc in omega arith)
+backing-is NoteRole.Close e = absurd (let z : _≡_ {A = ℕ} 0 1 = cc in omega arith)
+backing-is NoteRole.Peak e = absurd (let z : _≡_ {A = ℕ} 0 1 = cc in omega arith)
+backing-is NoteRole.Resolve e = absurd (let z : _≡_ {A = ℕ} 0 1 = cc in omega arith)
+backing-is NoteRole.ChordTone e = absurd (let z : _≡_ {A = ℕ} 0 1 = cc in omega arith)
+backing-is NoteRole.Passing e = absurd (let z : _≡_ {A = ℕ} 0 1 = cc in omega arith)
+backing-is NoteRole.Backing e = refl
+
+role-told : (edition : Edition) (leads : Bool) (n : Note) → roleWithin edition leads (n .role) ≡ true → RoleIn edition leads n
+unfolding roleWithin
+role-told Edition.One leads n e = backing-is (n .role) e
+role-told Edition.Two true n e = ltb-true (roleNumberOf (n .role)) 6 e
+role-told Edition.Two false n e = backing-is (n .role) e
+
+pub note-told : (edition : Edition) (leads : Bool) (n : Note) → noteWithin edition leads n ≡ true → (n .bar < 8) × (n .midi ≤ 127) × (n .spare ≡ 0) × FiniteNote n × RoleIn edition leads n
 unfolding noteWithin
-note-told n e =
-    let a = both (ltb (n .bar) 8 && leb (n .midi) 127 && eqb (n .spare) 0 && finite (n .at) && finite (n .vel)) (finite (n .dur)) e in
-    let b = both (ltb (n .bar) 8 && leb (n .midi) 127 && eqb (n .spare) 0 && finite (n .at)) (finite (n .vel)) (a .0) in
-    let c = both (ltb (n .bar) 8 && leb (n .midi) 127 && eqb (n .spare) 0) (finite (n .at)) (b .0) in
-    let d = both (ltb (n .bar) 8 && leb (n .midi) 127) (eqb (n .spare) 0) (c .0) in
-    let f = both (ltb (n .bar) 8) (leb (n .midi) 127) (d .0) in
+note-told edition leads n e =
+    let role = roleWithin edition leads (n .role) in
+    let a = both (ltb (n .bar) 8 && leb (n .midi) 127 && role && eqb (n .spare) 0 && finite (n .at) && finite (n .vel)) (finite (n .dur)) e in
+    let b = both (ltb (n .bar) 8 && leb (n .midi) 127 && role && eqb (n .spare) 0 && finite (n .at)) (finite (n .vel)) (a .0) in
+    let c = both (ltb (n .bar) 8 && leb (n .midi) 127 && role && eqb (n .spare) 0) (finite (n .at)) (b .0) in
+    let d = both (ltb (n .bar) 8 && leb (n .midi) 127 && role) (eqb (n .spare) 0) (c .0) in
+    let r = both (ltb (n .bar) 8 && leb (n .midi) 127) role (d .0) in
+    let f = both (ltb (n .bar) 8) (leb (n .midi) 127) (r .0) in
     let numbers : FiniteNote n = record { at = yes (finite (n .at)) (c .1); vel = yes (finite (n .vel)) (b .1); dur = yes (finite (n .dur)) (a .1) } in
-    (ltb-true (n .bar) 8 (f .0), leb-true (n .midi) 127 (f .1), eqb-true (n .spare) 0 (d .1), numbers)
+    (ltb-true (n .bar) 8 (f .0), leb-true (n .midi) 127 (f .1), eqb-true (n .spare) 0 (d .1), numbers, role-told edition leads n (r .1))
 
 pub hit-told : (h : Hit) → hitWithin h ≡ true → (h .bar < 8) × (h .spare ≡ 0) × FiniteHit h
 unfolding hitWithin
@@ -61,11 +80,11 @@ hit-told h e =
     (ltb-true (h .bar) 8 (c .0), eqb-true (h .spare) 0 (c .1), numbers)
 
 -- ---- a lane in range
-pub notes-told : (xs : List Note) (cap n : ℕ) → notesWithin xs cap n ≡ true → (n ≤ cap) × ((i : ℕ) → i < n → noteWithin (getD xs i pastNote) ≡ true)
+pub notes-told : (edition : Edition) (leads : Bool) (xs : List Note) (cap n : ℕ) → notesWithin edition leads xs cap n ≡ true → (n ≤ cap) × ((i : ℕ) → i < n → noteWithin edition leads (getD xs i pastNote) ≡ true)
 unfolding notesWithin
-notes-told xs cap n e =
-    let a = both (leb n cap) (allTo (λ i. noteWithin (getD xs i pastNote)) n) e in
-    (leb-true n cap (a .0), all-to-at (λ i. noteWithin (getD xs i pastNote)) n (a .1))
+notes-told edition leads xs cap n e =
+    let a = both (leb n cap) (allTo (λ i. noteWithin edition leads (getD xs i pastNote)) n) e in
+    (leb-true n cap (a .0), all-to-at (λ i. noteWithin edition leads (getD xs i pastNote)) n (a .1))
 
 pub hits-told : (xs : List Hit) (cap n : ℕ) → hitsWithin xs cap n ≡ true → (n ≤ cap) × ((i : ℕ) → i < n → hitWithin (getD xs i pastHit) ≡ true)
 unfolding hitsWithin
@@ -74,21 +93,21 @@ hits-told xs cap n e =
     (leb-true n cap (a .0), all-to-at (λ i. hitWithin (getD xs i pastHit)) n (a .1))
 
 -- ---- a score, a scale and a form in range
-pub record ScoreTold (s : Score) : Type 0 where
+pub record ScoreTold (edition : Edition) (s : Score) : Type 0 where
   pub bpm : finite (s .bpm) ≡ true
   pub chords : chordsWithin (s .«bar_chords») ≡ true
-  pub lead : notesWithin (s .lead) 56 (s .«lead_count») ≡ true
-  pub keys : notesWithin (s .keys) 128 (s .«keys_count») ≡ true
+  pub lead : notesWithin edition true (s .lead) 56 (s .«lead_count») ≡ true
+  pub keys : notesWithin edition false (s .keys) 128 (s .«keys_count») ≡ true
   pub hits : hitsWithin (s .hits) 98 (s .«hit_count») ≡ true
-  pub bass : notesWithin (s .bass) 104 (s .«bass_count») ≡ true
+  pub bass : notesWithin edition false (s .bass) 104 (s .«bass_count») ≡ true
 
-pub score-told : (s : Score) → scoreWithin s ≡ true → ScoreTold s
+pub score-told : (edition : Edition) (s : Score) → scoreWithin edition s ≡ true → ScoreTold edition s
 unfolding scoreWithin
-score-told s ok =
-    let lead = notesWithin (s .lead) 56 (s .«lead_count») in
-    let keys = notesWithin (s .keys) 128 (s .«keys_count») in
+score-told edition s ok =
+    let lead = notesWithin edition true (s .lead) 56 (s .«lead_count») in
+    let keys = notesWithin edition false (s .keys) 128 (s .«keys_count») in
     let hits = hitsWithin (s .hits) 98 (s .«hit_count») in
-    let a = both (finite (s .bpm) && chordsWithin (s .«bar_chords») && lead && keys && hits) (notesWithin (s .bass) 104 (s .«bass_count»)) ok in
+    let a = both (finite (s .bpm) && chordsWithin (s .«bar_chords») && lead && keys && hits) (notesWithin edition false (s .bass) 104 (s .«bass_count»)) ok in
     let b = both (finite (s .bpm) && chordsWithin (s .«bar_chords») && lead && keys) hits (a .0) in
     let c = both (finite (s .bpm) && chordsWithin (s .«bar_chords») && lead) keys (b .0) in
     let d = both (finite (s .bpm) && chordsWithin (s .«bar_chords»)) lead (c .0) in
@@ -110,21 +129,21 @@ form-told f ok =
     let b = both (leb 4 (f .phrases)) (leb (f .phrases) 6) (a .0) in
     (leb-true 4 (f .phrases) (b .0), leb-true (f .phrases) 6 (b .1), eqb-true (partsOf f) (f .bars) (a .1))
 
-pub within-told : (v : Song) → within v ≡ true → (scoreWithin (v .score) ≡ true) × (scaleWithin (v .scale) ≡ true) × (formWithin (v .form) ≡ true)
+pub within-told : (v : Song) → within v ≡ true → (scoreWithin (v .edition) (v .score) ≡ true) × (scaleWithin (v .scale) ≡ true) × (formWithin (v .form) ≡ true)
 unfolding within
 within-told v ok =
-    let a = both (scoreWithin (v .score) && scaleWithin (v .scale)) (formWithin (v .form)) ok in
-    let b = both (scoreWithin (v .score)) (scaleWithin (v .scale)) (a .0) in
+    let a = both (scoreWithin (v .edition) (v .score) && scaleWithin (v .scale)) (formWithin (v .form)) ok in
+    let b = both (scoreWithin (v .edition) (v .score)) (scaleWithin (v .scale)) (a .0) in
     (b .0, b .1, a .1)
 
 -- ---- so it can be written
-pub told-writable : (s : Score) → scoreWithin s ≡ true → length (s .lead) ≡ 56 → length (s .keys) ≡ 128 → length (s .hits) ≡ 98 → length (s .bass) ≡ 104 → Writable s
-told-writable s ok l k h b =
-    let p = score-told s ok in
-    let lead = notes-told (s .lead) 56 (s .«lead_count») (p .lead) in
-    let keys = notes-told (s .keys) 128 (s .«keys_count») (p .keys) in
+pub told-writable : (edition : Edition) (s : Score) → scoreWithin edition s ≡ true → length (s .lead) ≡ 56 → length (s .keys) ≡ 128 → length (s .hits) ≡ 98 → length (s .bass) ≡ 104 → Writable s
+told-writable edition s ok l k h b =
+    let p = score-told edition s ok in
+    let lead = notes-told edition true (s .lead) 56 (s .«lead_count») (p .lead) in
+    let keys = notes-told edition false (s .keys) 128 (s .«keys_count») (p .keys) in
     let hits = hits-told (s .hits) 98 (s .«hit_count») (p .hits) in
-    let bass = notes-told (s .bass) 104 (s .«bass_count») (p .bass) in
+    let bass = notes-told edition false (s .bass) 104 (s .«bass_count») (p .bass) in
     record {
       lanes = record {
         lead = record { size = l; few = lead .0 };
@@ -134,10 +153,10 @@ told-writable s ok l k h b =
       };
       numbers = record {
         bpm = yes (finite (s .bpm)) (p .bpm);
-        lead = λ i z. note-told (getD (s .lead) i pastNote) (lead .1 i z) .3;
-        keys = λ i z. note-told (getD (s .keys) i pastNote) (keys .1 i z) .3;
+        lead = λ i z. note-told edition true (getD (s .lead) i pastNote) (lead .1 i z) .3;
+        keys = λ i z. note-told edition false (getD (s .keys) i pastNote) (keys .1 i z) .3;
         hits = λ i z. hit-told (getD (s .hits) i pastHit) (hits .1 i z) .2;
-        bass = λ i z. note-told (getD (s .bass) i pastNote) (bass .1 i z) .3;
+        bass = λ i z. note-told edition false (getD (s .bass) i pastNote) (bass .1 i z) .3;
       };
     }
 
@@ -145,20 +164,31 @@ told-writable s ok l k h b =
 zero-is : (x : Float) → Fits32 x → isZero x ≡ true → x ≡ zero32
 zero-is x h e = sym (ofBits-toBits binary32 x h) ∙ ap (ofBits binary32) (eqb-true (toBits binary32 x) 0 e)
 
-note-alike : (a a′ b b′ c c′ : ℕ) (d d′ e e′ f f′ : Float) → a ≡ a′ → b ≡ b′ → c ≡ c′ → d ≡ d′ → e ≡ e′ → f ≡ f′
-    → _≡_ {A = Note} (record { bar = a; midi = b; spare = c; at = d; vel = e; dur = f }) (record { bar = a′; midi = b′; spare = c′; at = d′; vel = e′; dur = f′ })
-note-alike a a′ b b′ c c′ d d′ e e′ f f′ p q r s t u = rw (p, q, r, s, t, u)
+note-alike : (a a′ b b′ c c′ : ℕ) (r r′ : NoteRole) (d d′ e e′ f f′ : Float) → a ≡ a′ → b ≡ b′ → r ≡ r′ → c ≡ c′ → d ≡ d′ → e ≡ e′ → f ≡ f′
+    → _≡_ {A = Note} (record { bar = a; midi = b; role = r; spare = c; at = d; vel = e; dur = f }) (record { bar = a′; midi = b′; role = r′; spare = c′; at = d′; vel = e′; dur = f′ })
+note-alike a a′ b b′ c c′ r r′ d d′ e e′ f f′ p q k s t u w = rw (p, q, k, s, t, u, w)
+
+quote-is : (r : NoteRole) → eqb (roleNumberOf r) 0 ≡ true → r ≡ NoteRole.Quote
+quote-is NoteRole.Quote e = refl
+quote-is NoteRole.Close e = absurd (let z : _≡_ {A = ℕ} 0 1 = cc in omega arith)
+quote-is NoteRole.Peak e = absurd (let z : _≡_ {A = ℕ} 0 1 = cc in omega arith)
+quote-is NoteRole.Resolve e = absurd (let z : _≡_ {A = ℕ} 0 1 = cc in omega arith)
+quote-is NoteRole.ChordTone e = absurd (let z : _≡_ {A = ℕ} 0 1 = cc in omega arith)
+quote-is NoteRole.Passing e = absurd (let z : _≡_ {A = ℕ} 0 1 = cc in omega arith)
+quote-is NoteRole.Backing e = absurd (let z : _≡_ {A = ℕ} 0 1 = cc in omega arith)
 
 note-blank : (n : Note) → TypedNote n → noteZero n ≡ true → n ≡ noNote
 unfolding noteZero
 note-blank n t e =
-    let a = both (eqb (n .bar) 0 && eqb (n .midi) 0 && eqb (n .spare) 0 && isZero (n .at) && isZero (n .vel)) (isZero (n .dur)) e in
-    let b = both (eqb (n .bar) 0 && eqb (n .midi) 0 && eqb (n .spare) 0 && isZero (n .at)) (isZero (n .vel)) (a .0) in
-    let c = both (eqb (n .bar) 0 && eqb (n .midi) 0 && eqb (n .spare) 0) (isZero (n .at)) (b .0) in
-    let d = both (eqb (n .bar) 0 && eqb (n .midi) 0) (eqb (n .spare) 0) (c .0) in
-    let f = both (eqb (n .bar) 0) (eqb (n .midi) 0) (d .0) in
-    note-alike (n .bar) 0 (n .midi) 0 (n .spare) 0 (n .at) zero32 (n .vel) zero32 (n .dur) zero32 (eqb-true (n .bar) 0 (f .0)) (eqb-true (n .midi) 0 (f .1))
-    (eqb-true (n .spare) 0 (d .1)) (zero-is (n .at) (t .at) (c .1)) (zero-is (n .vel) (t .vel) (b .1)) (zero-is (n .dur) (t .dur) (a .1))
+    let role = eqb (roleNumberOf (n .role)) 0 in
+    let a = both (eqb (n .bar) 0 && eqb (n .midi) 0 && role && eqb (n .spare) 0 && isZero (n .at) && isZero (n .vel)) (isZero (n .dur)) e in
+    let b = both (eqb (n .bar) 0 && eqb (n .midi) 0 && role && eqb (n .spare) 0 && isZero (n .at)) (isZero (n .vel)) (a .0) in
+    let c = both (eqb (n .bar) 0 && eqb (n .midi) 0 && role && eqb (n .spare) 0) (isZero (n .at)) (b .0) in
+    let d = both (eqb (n .bar) 0 && eqb (n .midi) 0 && role) (eqb (n .spare) 0) (c .0) in
+    let r = both (eqb (n .bar) 0 && eqb (n .midi) 0) role (d .0) in
+    let f = both (eqb (n .bar) 0) (eqb (n .midi) 0) (r .0) in
+    note-alike (n .bar) 0 (n .midi) 0 (n .spare) 0 (n .role) NoteRole.Quote (n .at) zero32 (n .vel) zero32 (n .dur) zero32 (eqb-true (n .bar) 0 (f .0)) (eqb-true (n .midi) 0 (f .1))
+    (quote-is (n .role) (r .1)) (eqb-true (n .spare) 0 (d .1)) (zero-is (n .at) (t .at) (c .1)) (zero-is (n .vel) (t .vel) (b .1)) (zero-is (n .dur) (t .dur) (a .1))
 
 kick-is : (k : DrumKind) → eqb (kindNumberOf k) 0 ≡ true → k ≡ DrumKind.Kick
 kick-is DrumKind.Kick e = refl
@@ -189,16 +219,16 @@ past : {A : Type 0} (d : A) (xs : List A) (cap n : ℕ) (zero : A → Bool) → 
 past d xs cap n zero e i h k = ap (λ (t : Bool). t || zero (getD xs i d)) (sym (le-ltb i n h)) ∙ all-to-at (λ j. ltb j n || zero (getD xs j d)) cap e i k
 
 -- ---- whole lanes
-notes-padded : (xs : List Note) (cap n : ℕ) → TypedLane TypedNote pastNote cap xs → notesWithin xs cap n ≡ true → notesZero xs cap n ≡ true → Padded NoteIn pastNote noNote cap xs n
+notes-padded : (edition : Edition) (leads : Bool) (xs : List Note) (cap n : ℕ) → TypedLane TypedNote pastNote cap xs → notesWithin edition leads xs cap n ≡ true → notesZero xs cap n ≡ true → Padded (NoteIn edition leads) pastNote noNote cap xs n
 unfolding notesZero
-notes-padded xs cap n t ok zero =
-    let used = notes-told xs cap n ok in
+notes-padded edition leads xs cap n t ok zero =
+    let used = notes-told edition leads xs cap n ok in
     record {
       size = t .size;
       few = used .0;
       used = λ i h.
-          let x = note-told (getD xs i pastNote) (used .1 i h) in
-          record { bar = x .0; midi = x .1; spare = x .2; numbers = x .3; typed = t .each i (omega (arith, used .0)) };
+          let x = note-told edition leads (getD xs i pastNote) (used .1 i h) in
+          record { bar = x .0; midi = x .1; role = x .4; spare = x .2; numbers = x .3; typed = t .each i (omega (arith, used .0)) };
       rest = λ i h k. note-blank (getD xs i pastNote) (t .each i k) (past pastNote xs cap n noteZero zero i h k);
     }
 
@@ -273,17 +303,17 @@ tested-value v t ok =
     let a = valid-told v ok in
     let w = within-told v (a .0) in
     let z = cleared-told v (a .1) in
-    let s = score-told (v .score) (w .0) in
+    let s = score-told (v .edition) (v .score) (w .0) in
     let l = lanes-told (v .score) (z .0) in
     let f = form-told (v .form) (w .2) in
     record {
       bpm = yes (finite (v .score .bpm)) (s .bpm);
       bpm-fits = t .bpm;
       chords = chords-padded (v .score .«bar_chords») (t .chords) (s .chords);
-      lead = notes-padded (v .score .lead) 56 (v .score .«lead_count») (t .lead) (s .lead) (l .0);
-      keys = notes-padded (v .score .keys) 128 (v .score .«keys_count») (t .keys) (s .keys) (l .1);
+      lead = notes-padded (v .edition) true (v .score .lead) 56 (v .score .«lead_count») (t .lead) (s .lead) (l .0);
+      keys = notes-padded (v .edition) false (v .score .keys) 128 (v .score .«keys_count») (t .keys) (s .keys) (l .1);
       hits = hits-padded (v .score .hits) 98 (v .score .«hit_count») (t .hits) (s .hits) (l .2);
-      bass = notes-padded (v .score .bass) 104 (v .score .«bass_count») (t .bass) (s .bass) (l .3);
+      bass = notes-padded (v .edition) false (v .score .bass) 104 (v .score .«bass_count») (t .bass) (s .bass) (l .3);
       classes = scale-padded (v .scale) (t .pcs) (w .1) (z .1);
       classes-least = scale-told (v .scale) (w .1) .0;
       phrases = (f .0, f .1);

@@ -58,7 +58,7 @@ chord-long c us p = long u8-field 4 (c .notes) _ (p .1 .1 .0)
 
 note-typed : (n : Note) (us : List Val) → OfType note.the-field n us → TypedNote n
 note-typed n us p =
-    let from = p .1 .1 .1 .1 .1 in
+    let from = p .1 .1 .1 .1 .1 .1 in
     record { at = float-fits (n .at) (from .0 .1); vel = float-fits (n .vel) (from .1 .0 .1); dur = float-fits (n .dur) (from .1 .1 .0 .1) }
 
 hit-typed : (h : Hit) (us : List Val) → OfType hit.the-field h us → TypedHit h
@@ -72,7 +72,7 @@ notes-typed = lane note.the-field TypedNote pastNote note-typed
 
 pub song-typed : (v : Song) (us : List Val) → OfType song.the-field v us → Typed v
 song-typed v us p =
-    let from = p .1 .1 in
+    let from = p .1 .1 .1 in
     let s = v .score in
     let bpm = from .1 .0 .1 .1 .1 in
     let lead = bpm .1 .1 in

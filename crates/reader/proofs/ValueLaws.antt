@@ -14,14 +14,15 @@ use Rattle.laws.proofs.Bools.{holds}
 use Rattle.laws.proofs.Sorts.{all-by}
 use Rattle.composer.specs.Form.{partsOf}
 use Rattle.composer.specs.Form.Plays.{bitsOf}
-use Rattle.composer.specs.Note.{noNote, pastNote, noHit}
+use Rattle.composer.specs.Note.{roleNumberOf, noNote, pastNote, noHit}
 use Rattle.composer.specs.declared.chord.Chord.{Chord}
 use Rattle.composer.specs.declared.note.Hit.{Hit}
 use Rattle.composer.specs.declared.note.Note.{Note}
+use Rattle.pages.specs.declared.edition.Edition.{Edition}
 use Rattle.reader.specs.Cleared.{noteZero, hitZero, notesZero, hitsZero, scaleZero, playsZero, scoreZero, cleared}
 use Rattle.reader.specs.Tests.{allTo}
-use Rattle.reader.specs.Value.{valid, TypedNote, TypedHit, TypedLane, Shaped, Typed, Padded, Any, NoteIn, HitIn, ChordIn, Value}
-use Rattle.reader.specs.Within.{noteWithin, hitWithin, notesWithin, hitsWithin, chordWithin, chordsWithin, scaleWithin, formWithin, scoreWithin, within}
+use Rattle.reader.specs.Value.{valid, TypedNote, TypedHit, TypedLane, Shaped, Typed, Padded, Any, RoleIn, NoteIn, HitIn, ChordIn, Value}
+use Rattle.reader.specs.Within.{roleWithin, noteWithin, hitWithin, notesWithin, hitsWithin, chordWithin, chordsWithin, scaleWithin, formWithin, scoreWithin, within}
 use Rattle.reader.specs.declared.song.Song.{Song}
 use Rattle.reader.proofs.EventLaws.{StoredNote, StoredHit}
 use Rattle.reader.proofs.SongLaws.{Kept, StoredChord, StoredSong}
@@ -57,12 +58,19 @@ module _ {A : Type 0} {P : A → Type 0} {d z : A} {cap : ℕ} {xs : List A} {n 
   }
 
 -- ---- an entry's
-note-in : (x : Note) → NoteIn x → noteWithin x ≡ true
+pub role-in : (edition : Edition) (leads : Bool) (x : Note) → RoleIn edition leads x → roleWithin edition leads (x .role) ≡ true
+unfolding roleWithin
+role-in Edition.One leads x p = rw p
+role-in Edition.Two true x p = lt-ltb (roleNumberOf (x .role)) 6 p
+role-in Edition.Two false x p = rw p
+
+note-in : (edition : Edition) (leads : Bool) (x : Note) → NoteIn edition leads x → noteWithin edition leads x ≡ true
 unfolding noteWithin
-note-in x p =
+note-in edition leads x p =
     rw (
       lt-ltb (x .bar) 8 (p .bar),
       le-leb (x .midi) 127 (p .midi),
+      role-in edition leads x (p .role),
       eq-eqb (x .spare) 0 (p .spare),
       holds (finite (x .at)) (p .numbers .at),
       holds (finite (x .vel)) (p .numbers .vel),
@@ -92,19 +100,19 @@ pub no-hit-typed : TypedHit noHit
 no-hit-typed = record { at = ofBits-fits binary32 0; gain = ofBits-fits binary32 0 }
 
 -- ---- a lane's
-notes-in : {cap n : ℕ} {xs : List Note} → Padded NoteIn pastNote noNote cap xs n → notesWithin xs cap n ≡ true
+notes-in : {edition : Edition} {leads : Bool} {cap n : ℕ} {xs : List Note} → Padded (NoteIn edition leads) pastNote noNote cap xs n → notesWithin edition leads xs cap n ≡ true
 unfolding notesWithin
-notes-in {cap} {n} f = rw (le-leb n cap (f .few)) (used-pass f noteWithin note-in)
+notes-in {edition} {leads} {cap} {n} f = rw (le-leb n cap (f .few)) (used-pass f (noteWithin edition leads) (note-in edition leads))
 
-notes-zero : {cap n : ℕ} {xs : List Note} → Padded NoteIn pastNote noNote cap xs n → notesZero xs cap n ≡ true
+notes-zero : {edition : Edition} {leads : Bool} {cap n : ℕ} {xs : List Note} → Padded (NoteIn edition leads) pastNote noNote cap xs n → notesZero xs cap n ≡ true
 unfolding notesZero
 notes-zero f = rest-pass f noteZero no-note-zero
 
-notes-typed : {cap n : ℕ} {xs : List Note} → Padded NoteIn pastNote noNote cap xs n → TypedLane TypedNote pastNote cap xs
+notes-typed : {edition : Edition} {leads : Bool} {cap n : ℕ} {xs : List Note} → Padded (NoteIn edition leads) pastNote noNote cap xs n → TypedLane TypedNote pastNote cap xs
 notes-typed f = typed-lane f TypedNote (λ x p. p .typed) no-note-typed
 
-notes-kept : {cap n : ℕ} {xs : List Note} → Padded NoteIn pastNote noNote cap xs n → Kept StoredNote noNote cap xs n
-notes-kept f = kept f StoredNote (λ x p. record { at = p .typed .at; vel = p .typed .vel; dur = p .typed .dur; spare = p .spare })
+notes-kept : {edition : Edition} {leads : Bool} {cap n : ℕ} {xs : List Note} → Padded (NoteIn edition leads) pastNote noNote cap xs n → Kept (StoredNote edition leads) noNote cap xs n
+notes-kept {edition} {leads} f = kept f (StoredNote edition leads) (λ x p. record { role = p .role; at = p .typed .at; vel = p .typed .vel; dur = p .typed .dur; spare = p .spare })
 
 -- ---- the song's
 module _ (v : Song) (p : Value v) where
@@ -120,7 +128,7 @@ module _ (v : Song) (p : Value v) where
   unfolding chordsWithin
   chords-in = used-pass (p .chords) chordWithin chord-in
 
-  score-in : scoreWithin (v .score) ≡ true
+  score-in : scoreWithin (v .edition) (v .score) ≡ true
   unfolding scoreWithin
   score-in = rw (holds (finite (v .score .bpm)) (p .bpm), chords-in, notes-in (p .lead), notes-in (p .keys), hits-in, notes-in (p .bass))
 

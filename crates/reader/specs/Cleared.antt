@@ -6,7 +6,7 @@ use lib.Dec.{eqb, ltb}
 use lib.Ieee.{Float, binary32, toBits}
 use lib.ListN.{getD}
 use Rattle.composer.specs.Form.Plays.{bitsOf, silent}
-use Rattle.composer.specs.Note.{pastNote, pastHit, kindNumberOf}
+use Rattle.composer.specs.Note.{pastNote, roleNumberOf, pastHit, kindNumberOf}
 use Rattle.composer.specs.declared.form.Form.{Form}
 use Rattle.composer.specs.declared.harmony.Scale.{Scale}
 use Rattle.composer.specs.declared.note.Hit.{Hit}
@@ -20,7 +20,8 @@ abbrev pub isZero : Float → Bool
 isZero x = eqb (toBits binary32 x) 0
 
 unfoldable pub noteZero : Note → Bool
-noteZero n = eqb (n .bar) 0 && eqb (n .midi) 0 && eqb (n .spare) 0 && isZero (n .at) && isZero (n .vel) && isZero (n .dur)
+noteZero n =
+    eqb (n .bar) 0 && eqb (n .midi) 0 && eqb (roleNumberOf (n .role)) 0 && eqb (n .spare) 0 && isZero (n .at) && isZero (n .vel) && isZero (n .dur)
 
 unfoldable pub hitZero : Hit → Bool
 hitZero h = eqb (h .bar) 0 && eqb (kindNumberOf (h .kind)) 0 && eqb (h .spare) 0 && isZero (h .at) && isZero (h .gain)

@@ -10,8 +10,10 @@ use Rattle.composer.specs.declared.form.ends.End.{End}
 use Rattle.composer.specs.declared.form.ends.Outro.{Outro}
 use Rattle.composer.specs.declared.form.plays.Plays.{Plays}
 use Rattle.composer.specs.declared.note.DrumKind.{DrumKind}
+use Rattle.composer.specs.declared.note.NoteRole.{NoteRole}
 use Rattle.composer.specs.declared.voice.LeadVoice.{LeadVoice}
 use Rattle.pages.specs.Bytes.{byteAt}
+use Rattle.pages.specs.declared.edition.Edition.{Edition}
 use Rattle.reader.specs.Layout.{bodyAt, sizeAt}
 use Rattle.reader.specs.Tests.{allTo}
 
@@ -21,6 +23,25 @@ voiceCoded n = cond (eqb n 0) LeadVoice.EpVel (cond (eqb n 1) LeadVoice.Pluck (c
 
 abbrev pub kindCoded : ℕ → DrumKind
 kindCoded n = cond (eqb n 0) DrumKind.Kick (cond (eqb n 1) DrumKind.Snare (cond (eqb n 2) DrumKind.Hat DrumKind.OpenHat))
+
+-- a lead note's six roles, and the one of all others. A code that is none of the lane's is read as a role that is none
+-- of them either
+abbrev pub leadRoleCoded : ℕ → NoteRole
+leadRoleCoded n =
+    cond (eqb n 0) NoteRole.Quote
+    (cond (eqb n 1) NoteRole.Close
+    (cond (eqb n 2) NoteRole.Peak
+    (cond (eqb n 3) NoteRole.Resolve
+    (cond (eqb n 4) NoteRole.ChordTone
+    (cond (eqb n 5) NoteRole.Passing NoteRole.Backing)))))
+
+abbrev pub roleCoded : Bool → ℕ → NoteRole
+roleCoded leads n = cond leads (leadRoleCoded n) (cond (eqb n 6) NoteRole.Backing NoteRole.Quote)
+
+-- edition 1 tells no role: there each is that of keys and bass
+unfoldable pub roleAt : Edition → Bool → List ℕ → ℕ → NoteRole
+roleAt Edition.One leads bytes at = NoteRole.Backing
+roleAt Edition.Two leads bytes at = roleCoded leads (byteAt bytes at)
 
 abbrev pub barsCoded : ℕ → Bars
 barsCoded n = cond (eqb n 4) Bars.Four Bars.Eight

@@ -11,6 +11,7 @@ use Rattle.composer.specs.declared.form.ends.Outro.{Outro}
 use Rattle.composer.specs.declared.refusal.Outcome.{Outcome}
 use Rattle.composer.specs.declared.refusal.Refusal.{Refusal}
 use Rattle.pages.specs.Answer.{Asked, Writes, Declines, askedBy}
+use Rattle.pages.specs.declared.edition.Edition.{Edition}
 use Rattle.reader.specs.Codes.{coded}
 use Rattle.reader.specs.Layout.{formed}
 use Rattle.reader.specs.Song.{songIn, sheetOf}
@@ -22,6 +23,7 @@ use Rattle.reader.specs.declared.song.Song.{Song}
 -- what stands beside a refusal: zero throughout
 abbrev pub noSong : Song
 noSong = record {
+  edition = Edition.One;
   seed = 0;
   score = noScore;
   scale = record { pcs = replicate 6 0; n = 0 };
@@ -31,7 +33,7 @@ noSong = record {
 abbrev pub readRefused : Refusal → Read
 readRefused r = record { outcome = Outcome.Refused r; song = noSong }
 
--- the song that the bytes name: 7 if they are not ten fields, and only then 8 if a code is unknown or a value out of
+-- the song that the bytes name: 7 if they are not the fields of an edition, and only then 8 if a code is unknown or a value out of
 -- range, the song's own length among them
 unfoldable pub readOf : List ℕ → Read
 readOf bytes =

@@ -1,4 +1,5 @@
 -- The song that bytes name, place by place, whether or not they are a sheet's. Definitions only.
+use mathlib.Core.Bool.{Bool, true, false}
 use mathlib.Core.List.{List, [], _∷_}
 use Prim.Native.Nat.{ℕ, _+_, _*_, _/_}
 use lib.Dec.{eqb}
@@ -14,20 +15,23 @@ use Rattle.composer.specs.declared.note.Hit.{Hit}
 use Rattle.composer.specs.declared.note.Note.{Note}
 use Rattle.composer.specs.declared.score.Score.{Score}
 use Rattle.pages.specs.Bytes.{byteAt, be64At, f32At}
+use Rattle.pages.specs.Edition.{noteWidth}
 use Rattle.pages.specs.Sheet.{sheetBytes}
-use Rattle.reader.specs.Codes.{voiceCoded, kindCoded, endCoded, outroCoded, playsCoded}
-use Rattle.reader.specs.Layout.{bodyAt, sizeAt}
+use Rattle.pages.specs.declared.edition.Edition.{Edition}
+use Rattle.reader.specs.Codes.{voiceCoded, roleAt, kindCoded, endCoded, outroCoded, playsCoded}
+use Rattle.reader.specs.Layout.{editionIn, bodyAt, sizeAt}
 use Rattle.reader.specs.declared.song.Song.{Song}
 
 -- ---- events
--- bar, time, MIDI note, velocity, duration
-unfoldable pub noteAt : List ℕ → ℕ → Note
-noteAt bytes at = record {
+-- bar, time, MIDI note, velocity, duration and, in edition 2, role; `leads` where it is a note of the lead
+unfoldable pub noteAt : Edition → Bool → List ℕ → ℕ → Note
+noteAt edition leads bytes at = record {
   bar = byteAt bytes at;
   at = f32At bytes (at + 1);
   midi = byteAt bytes (at + 5);
   vel = f32At bytes (at + 6);
   dur = f32At bytes (at + 10);
+  role = roleAt edition leads bytes (at + 14);
   spare = 0;
 }
 
@@ -42,8 +46,8 @@ hitAt bytes at = record {
 }
 
 -- n of them, from a place on
-abbrev pub notesAt : List ℕ → ℕ → ℕ → List Note
-notesAt bytes at n = listTo (λ i. noteAt bytes (at + 14 * i)) n
+abbrev pub notesAt : Edition → Bool → List ℕ → ℕ → ℕ → List Note
+notesAt edition leads bytes at n = listTo (λ i. noteAt edition leads bytes (at + noteWidth edition * i)) n
 
 abbrev pub hitsAt : List ℕ → ℕ → ℕ → List Hit
 hitsAt bytes at n = listTo (λ i. hitAt bytes (at + 10 * i)) n
@@ -61,7 +65,7 @@ scaleAt bytes at n = record { pcs = pad 0 6 (listTo (λ i. byteAt bytes (at + i)
 -- ---- the score: lanes in arrays, zeros behind their events
 -- how many notes or hits field k has
 abbrev pub noteCountIn : List ℕ → ℕ → ℕ
-noteCountIn bytes k = sizeAt bytes k / 14
+noteCountIn bytes k = sizeAt bytes k / noteWidth (editionIn bytes)
 
 abbrev pub hitCountIn : List ℕ → ℕ → ℕ
 hitCountIn bytes k = sizeAt bytes k / 10
@@ -71,13 +75,13 @@ scoreIn bytes = record {
   style = styleBy (byteAt bytes (bodyAt bytes 0));
   bpm = f32At bytes (bodyAt bytes 1);
   «bar_chords» = chordsFrom bytes (bodyAt bytes 2);
-  lead = pad noNote 56 (notesAt bytes (bodyAt bytes 4) (noteCountIn bytes 4));
+  lead = pad noNote 56 (notesAt (editionIn bytes) true bytes (bodyAt bytes 4) (noteCountIn bytes 4));
   «lead_count» = noteCountIn bytes 4;
-  keys = pad noNote 128 (notesAt bytes (bodyAt bytes 5) (noteCountIn bytes 5));
+  keys = pad noNote 128 (notesAt (editionIn bytes) false bytes (bodyAt bytes 5) (noteCountIn bytes 5));
   «keys_count» = noteCountIn bytes 5;
   hits = pad noHit 98 (hitsAt bytes (bodyAt bytes 6) (hitCountIn bytes 6));
   «hit_count» = hitCountIn bytes 6;
-  bass = pad noNote 104 (notesAt bytes (bodyAt bytes 7) (noteCountIn bytes 7));
+  bass = pad noNote 104 (notesAt (editionIn bytes) false bytes (bodyAt bytes 7) (noteCountIn bytes 7));
   «bass_count» = noteCountIn bytes 7;
   «lead_voice» = voiceCoded (byteAt bytes (bodyAt bytes 0 + 9));
 }
@@ -101,12 +105,13 @@ formIn bytes =
 -- ---- the whole
 unfoldable pub songIn : List ℕ → Song
 songIn bytes = record {
+  edition = editionIn bytes;
   seed = be64At bytes (bodyAt bytes 0 + 1);
   score = scoreIn bytes;
   scale = scaleAt bytes (bodyAt bytes 3) (sizeAt bytes 3);
   form = formIn bytes;
 }
 
--- and back: the sheet of a song
+-- and back: the sheet of a song, in its edition
 abbrev pub sheetOf : Song → List ℕ
-sheetOf v = sheetBytes (v .seed) (v .score) (v .scale) (v .form)
+sheetOf v = sheetBytes (v .edition) (v .seed) (v .score) (v .scale) (v .form)

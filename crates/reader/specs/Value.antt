@@ -1,6 +1,6 @@
 -- Which values a sheet can have: every number in its range, counts within the capacities, unused entries zero; as
 -- tests, and once more as facts. Definitions only.
-use mathlib.Core.Bool.{Bool, _&&_}
+use mathlib.Core.Bool.{Bool, true, false, _&&_}
 use mathlib.Core.List.{List}
 use mathlib.Core.Path.{_≡_}
 use Prim.Native.Nat.{ℕ, _^_, _≤_, _<_}
@@ -12,10 +12,12 @@ use Rattle.composer.specs.Form.{partsOf}
 use Rattle.composer.specs.Form.Plays.{silent}
 use Rattle.composer.specs.Note.{noNote, pastNote, noHit, pastHit}
 use Rattle.composer.specs.Plain.{Fits32}
+use Rattle.composer.specs.Roles.{Leads, Backs}
 use Rattle.composer.specs.declared.chord.Chord.{Chord}
 use Rattle.composer.specs.declared.note.Hit.{Hit}
 use Rattle.composer.specs.declared.note.Note.{Note}
 use Rattle.pages.specs.Writable.{FiniteNote, FiniteHit}
+use Rattle.pages.specs.declared.edition.Edition.{Edition}
 use Rattle.reader.specs.Cleared.{cleared}
 use Rattle.reader.specs.Within.{within}
 use Rattle.reader.specs.declared.song.Song.{Song}
@@ -64,9 +66,16 @@ pub record Padded {A : Type 0} (P : A → Type 0) (d z : A) (cap : ℕ) (xs : Li
 abbrev pub Any : {A : Type 0} → A → Type 0
 Any x = Unit
 
-pub record NoteIn (x : Note) : Type 0 where
+-- in edition 2 the lead's notes have one of its six roles, and all others that of keys and bass; in edition 1 all have it
+abbrev pub RoleIn : Edition → Bool → Note → Type 0
+RoleIn Edition.One leads x = Backs x
+RoleIn Edition.Two true x = Leads x
+RoleIn Edition.Two false x = Backs x
+
+pub record NoteIn (edition : Edition) (leads : Bool) (x : Note) : Type 0 where
   pub bar : x .bar < 8
   pub midi : x .midi ≤ 127
+  pub role : RoleIn edition leads x
   pub spare : x .spare ≡ 0
   pub numbers : FiniteNote x
   pub typed : TypedNote x
@@ -85,10 +94,10 @@ pub record Value (v : Song) : Type 0 where
   pub bpm : T (finite (v .score .bpm))
   pub bpm-fits : Fits32 (v .score .bpm)
   pub chords : Padded ChordIn pastChord noChord 8 (v .score .«bar_chords») 8
-  pub lead : Padded NoteIn pastNote noNote 56 (v .score .lead) (v .score .«lead_count»)
-  pub keys : Padded NoteIn pastNote noNote 128 (v .score .keys) (v .score .«keys_count»)
+  pub lead : Padded (NoteIn (v .edition) true) pastNote noNote 56 (v .score .lead) (v .score .«lead_count»)
+  pub keys : Padded (NoteIn (v .edition) false) pastNote noNote 128 (v .score .keys) (v .score .«keys_count»)
   pub hits : Padded HitIn pastHit noHit 98 (v .score .hits) (v .score .«hit_count»)
-  pub bass : Padded NoteIn pastNote noNote 104 (v .score .bass) (v .score .«bass_count»)
+  pub bass : Padded (NoteIn (v .edition) false) pastNote noNote 104 (v .score .bass) (v .score .«bass_count»)
   pub classes : Padded (λ c. c < 12) 0 0 6 (v .scale .pcs) (v .scale .n)
   pub classes-least : 5 ≤ v .scale .n
   pub phrases : (4 ≤ v .form .phrases) × (v .form .phrases ≤ 6)

@@ -12,10 +12,12 @@ use composer::score::Score;
 fn note_zero(n: Note) -> bool
     ensures { λ r. ⌜ r ≡ noteZero n ⌝ }
 {
+    let role = n.role;
+    let number = role.number();
     let at = is_zero(n.at);
     let vel = is_zero(n.vel);
     let dur = is_zero(n.dur);
-    (n.bar == 0) & (n.midi == 0) & (n.spare == 0) & at & vel & dur
+    (n.bar == 0) & (n.midi == 0) & (number == 0) & (n.spare == 0) & at & vel & dur
 }
 
 fn hit_zero(h: Hit) -> bool

@@ -3,7 +3,7 @@
 ghost use mathlib.Core.Path.{_≡_};
 ghost use Prim.Native.Nat.{_+_, _*_, _≤_};
 ghost use lib.ListN.{length};
-ghost use Rattle.reader.specs.Codes.{voiceCoded, kindCoded, barsCoded, edgeCoded, endCoded, outroCoded, playsCoded, endKnown, outroKnown, nameKnown, kindsKnown, endsKnown, playsKnown, coded};
+ghost use Rattle.reader.specs.Codes.{voiceCoded, leadRoleCoded, roleCoded, kindCoded, barsCoded, edgeCoded, endCoded, outroCoded, playsCoded, endKnown, outroKnown, nameKnown, kindsKnown, endsKnown, playsKnown, coded};
 ghost use Rattle.reader.specs.Inner.Layout.{layoutOf, Roomy};
 use crate::layout::Layout;
 use composer::form::ends::Bars;
@@ -12,6 +12,7 @@ use composer::form::ends::End;
 use composer::form::ends::Outro;
 use composer::form::plays::Plays;
 use composer::note::DrumKind;
+use composer::note::NoteRole;
 use composer::voice::LeadVoice;
 use pages::get::byte_in;
 
@@ -43,6 +44,45 @@ pub(crate) fn kind_coded(n: u8) -> DrumKind
         return DrumKind::Hat;
     }
     DrumKind::OpenHat
+}
+
+// A lead note's six roles; any other code is none of them.
+fn lead_role_coded(n: u8) -> NoteRole
+    ensures { λ r. ⌜ r ≡ leadRoleCoded n ⌝ }
+{
+    if n == 0 {
+        return NoteRole::Quote;
+    }
+    if n == 1 {
+        return NoteRole::Close;
+    }
+    if n == 2 {
+        return NoteRole::Peak;
+    }
+    if n == 3 {
+        return NoteRole::Resolve;
+    }
+    if n == 4 {
+        return NoteRole::ChordTone;
+    }
+    if n == 5 {
+        return NoteRole::Passing;
+    }
+    NoteRole::Backing
+}
+
+// The role of a note of the lead, or of any other.
+pub(crate) fn role_coded(leads: bool, n: u8) -> NoteRole
+    ensures { λ r. ⌜ r ≡ roleCoded leads n ⌝ }
+{
+    if leads {
+        return lead_role_coded(n);
+    }
+    if n == 6 {
+        NoteRole::Backing
+    } else {
+        NoteRole::Quote
+    }
 }
 
 fn bars_coded(n: u8) -> Bars

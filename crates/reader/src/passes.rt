@@ -4,7 +4,7 @@ ghost use mathlib.Core.Path.{_≡_};
 ghost use Prim.Native.Nat.{_+_, _≤_};
 ghost use lib.ListN.{length};
 ghost use Rattle.reader.specs.Inner.Layout.{layoutOf, Roomy};
-ghost use Rattle.reader.specs.Layout.{bodyAt, sizeAt};
+ghost use Rattle.reader.specs.Layout.{editionIn, bodyAt, sizeAt};
 ghost use Rattle.reader.specs.Song.{scoreIn, formIn, songIn};
 ghost use Rattle.reader.specs.Within.{formWithin, scoreWithin, within};
 use crate::codes::end_coded;
@@ -23,17 +23,19 @@ use pages::get::finite_at;
 fn score_passes(bytes: &[u8], l: Layout) -> bool
     requires { ⌜ l ≡ layoutOf (now bytes) ⌝ }
     requires { ⌜ Roomy (now bytes) ⌝ }
-    ensures { λ r. ⌜ r ≡ scoreWithin (scoreIn (now (bytes .entry))) ⌝ }
+    ensures { λ r. ⌜ r ≡ scoreWithin (editionIn (now (bytes .entry))) (scoreIn (now (bytes .entry))) ⌝ }
 {
     let at = l.bodies;
     let sizes = l.sizes;
     let tempo = finite_at(bytes, at[1]);
     let bars = chords_from(bytes, at[2]);
     let chords = chords_within(bars);
-    let lead = notes_pass(bytes, at[4], sizes[4] / 14);
-    let keys = notes_pass(bytes, at[5], sizes[5] / 14);
+    let edition = l.edition;
+    let width = edition.note_width();
+    let lead = notes_pass(bytes, at[4], sizes[4] / width, edition, true);
+    let keys = notes_pass(bytes, at[5], sizes[5] / width, edition, false);
     let hits = hits_pass(bytes, at[6], sizes[6] / 10);
-    let bass = notes_pass(bytes, at[7], sizes[7] / 14);
+    let bass = notes_pass(bytes, at[7], sizes[7] / width, edition, false);
     tempo & chords & lead & keys & hits & bass
 }
 

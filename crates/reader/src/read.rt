@@ -19,6 +19,7 @@ use composer::form::plays::SILENT;
 use composer::harmony::Scale;
 use composer::refusal::Outcome;
 use composer::refusal::Refusal;
+use pages::edition::Edition;
 
 // A refusal, beside a song that is zero throughout.
 fn refused(r: Refusal) -> Read
@@ -39,6 +40,7 @@ fn refused(r: Refusal) -> Read
         bars: 0,
     };
     let song = Song {
+        edition: Edition::One,
         seed: 0,
         score: score,
         scale: scale,
@@ -50,7 +52,7 @@ fn refused(r: Refusal) -> Read
     }
 }
 
-// How reading goes: bytes that are not ten fields in order, each of a length that some value has there, are refused
+// How reading goes: bytes that are not the fields of an edition in order, each of a length that some value has there, are refused
 // with 7; only then an unknown code, a value out of range or a song of another length with 8.
 pub(crate) fn outcome_of(bytes: &[u8], l: Layout) -> Outcome
     requires { ⌜ l ≡ layoutOf (now bytes) ⌝ }

@@ -6,6 +6,7 @@ ghost use lib.ListN.{length};
 ghost use Rattle.laws.specs.Lists.{pad};
 ghost use Rattle.composer.specs.Form.Plays.{silent};
 ghost use Rattle.reader.specs.Inner.Layout.{layoutOf, Roomy};
+ghost use Rattle.reader.specs.Layout.{editionIn};
 ghost use Rattle.reader.specs.Within.{scoreWithin, within};
 ghost use Rattle.reader.specs.Song.{chordFrom, chordsFrom, scaleAt, scoreIn, playsFrom, formIn, songIn};
 use crate::codes::end_coded;
@@ -26,12 +27,14 @@ use composer::form::plays::SILENT;
 use composer::harmony::Scale;
 use composer::refusal::Outcome;
 use composer::score::Score;
+use pages::edition::Edition;
 use pages::get::byte_in;
 use pages::get::f32_at;
 use pages::get::u64_at;
 
-// What a sheet names; style and voice stand in the score.
+// What a sheet names, and the edition that it is of; style and voice stand in the score.
 pub struct Song {
+    pub edition: Edition,
     pub seed: u64,
     pub score: Score,
     pub scale: Scale,
@@ -88,7 +91,7 @@ pub(crate) fn scale_at(bytes: &[u8], at: usize, n: usize) -> Scale
 fn score_in(bytes: &[u8], l: Layout) -> Score
     requires { ⌜ l ≡ layoutOf (now bytes) ⌝ }
     requires { ⌜ Roomy (now bytes) ⌝ }
-    requires { ⌜ scoreWithin (scoreIn (now bytes)) ≡ true ⌝ }
+    requires { ⌜ scoreWithin (editionIn (now bytes)) (scoreIn (now bytes)) ≡ true ⌝ }
     ensures { λ r. ⌜ r ≡ scoreIn (now (bytes .entry)) ⌝ }
 {
     let at = l.bodies;
@@ -99,22 +102,27 @@ fn score_in(bytes: &[u8], l: Layout) -> Score
     let voice = voice_coded(voice_number);
     let bpm = f32_at(bytes, at[1]);
     let chords = chords_from(bytes, at[2]);
-    let lead = lead_at(bytes, at[4], sizes[4] / 14);
-    let keys = keys_at(bytes, at[5], sizes[5] / 14);
+    let edition = l.edition;
+    let width = edition.note_width();
+    let lead_count = sizes[4] / width;
+    let keys_count = sizes[5] / width;
+    let bass_count = sizes[7] / width;
+    let lead = lead_at(bytes, at[4], lead_count, edition);
+    let keys = keys_at(bytes, at[5], keys_count, edition);
     let hits = hits_at(bytes, at[6], sizes[6] / 10);
-    let bass = bass_at(bytes, at[7], sizes[7] / 14);
+    let bass = bass_at(bytes, at[7], bass_count, edition);
     Score {
         style: style,
         bpm: bpm,
         bar_chords: chords,
         lead: lead,
-        lead_count: sizes[4] / 14,
+        lead_count: lead_count,
         keys: keys,
-        keys_count: sizes[5] / 14,
+        keys_count: keys_count,
         hits: hits,
         hit_count: sizes[6] / 10,
         bass: bass,
-        bass_count: sizes[7] / 14,
+        bass_count: bass_count,
         lead_voice: voice,
     }
 }
@@ -175,7 +183,9 @@ pub(crate) fn song_in(bytes: &[u8], l: Layout) -> Song
     let score = score_in(bytes, l);
     let scale = scale_at(bytes, at[3], sizes[3]);
     let form = form_in(bytes, l);
+    let edition = l.edition;
     Song {
+        edition: edition,
         seed: seed,
         score: score,
         scale: scale,

@@ -1,15 +1,18 @@
 // Whether every number of a value is in its range.
+ghost use mathlib.Core.Bool.{true, false};
 ghost use mathlib.Core.Path.{_≡_};
 ghost use lib.Ieee.Scale.{finite};
 ghost use Rattle.reader.specs.Cleared.{isZero};
-ghost use Rattle.reader.specs.Within.{noteWithin, hitWithin, notesWithin, hitsWithin, chordWithin, chordsWithin, scaleWithin, formWithin, scoreWithin, within};
+ghost use Rattle.reader.specs.Within.{roleWithin, noteWithin, hitWithin, notesWithin, hitsWithin, chordWithin, chordsWithin, scaleWithin, formWithin, scoreWithin, within};
 use crate::song::Song;
 use composer::chord::Chord;
 use composer::form::Form;
 use composer::harmony::Scale;
 use composer::note::Hit;
 use composer::note::Note;
+use composer::note::NoteRole;
 use composer::score::Score;
+use pages::edition::Edition;
 use streams::float::bits_of;
 
 fn is_finite(x: f32) -> bool
@@ -28,13 +31,31 @@ pub(crate) fn is_zero(x: f32) -> bool
 }
 
 // ---- the ranges: an event in use
-fn note_within(n: Note) -> bool
-    ensures { λ r. ⌜ r ≡ noteWithin n ⌝ }
+// A role: in edition 2 the lead has 0 to 5 and all else 6, in edition 1 all have 6.
+fn role_within(role: NoteRole, edition: Edition, leads: bool) -> bool
+    ensures { λ r. ⌜ r ≡ roleWithin edition leads role ⌝ }
 {
+    let number = role.number();
+    match edition {
+        Edition::One => number == 6,
+        Edition::Two => {
+            if leads {
+                return number < 6;
+            }
+            number == 6
+        }
+    }
+}
+
+fn note_within(n: Note, edition: Edition, leads: bool) -> bool
+    ensures { λ r. ⌜ r ≡ noteWithin edition leads n ⌝ }
+{
+    let note_role = n.role;
+    let role = role_within(note_role, edition, leads);
     let at = is_finite(n.at);
     let vel = is_finite(n.vel);
     let dur = is_finite(n.dur);
-    (n.bar < 8) & (n.midi <= 127) & (n.spare == 0) & at & vel & dur
+    (n.bar < 8) & (n.midi <= 127) & role & (n.spare == 0) & at & vel & dur
 }
 
 fn hit_within(h: Hit) -> bool
@@ -46,8 +67,8 @@ fn hit_within(h: Hit) -> bool
 }
 
 // The lanes: the first n entries are in use.
-fn lead_within(lead: [Note; 56], n: usize) -> bool
-    ensures { λ r. ⌜ r ≡ notesWithin lead 56 n ⌝ }
+fn lead_within(lead: [Note; 56], n: usize, edition: Edition) -> bool
+    ensures { λ r. ⌜ r ≡ notesWithin edition true lead 56 n ⌝ }
 {
     if n > 56 {
         return false;
@@ -56,15 +77,15 @@ fn lead_within(lead: [Note; 56], n: usize) -> bool
     let mut i: usize = 0;
     while i < n {
         let note = lead[i];
-        let fits = note_within(note);
+        let fits = note_within(note, edition, true);
         ok = ok & fits;
         i += 1;
     }
     ok
 }
 
-fn keys_within(keys: [Note; 128], n: usize) -> bool
-    ensures { λ r. ⌜ r ≡ notesWithin keys 128 n ⌝ }
+fn keys_within(keys: [Note; 128], n: usize, edition: Edition) -> bool
+    ensures { λ r. ⌜ r ≡ notesWithin edition false keys 128 n ⌝ }
 {
     if n > 128 {
         return false;
@@ -73,7 +94,7 @@ fn keys_within(keys: [Note; 128], n: usize) -> bool
     let mut i: usize = 0;
     while i < n {
         let note = keys[i];
-        let fits = note_within(note);
+        let fits = note_within(note, edition, false);
         ok = ok & fits;
         i += 1;
     }
@@ -97,8 +118,8 @@ fn hits_within(hits: [Hit; 98], n: usize) -> bool
     ok
 }
 
-fn bass_within(bass: [Note; 104], n: usize) -> bool
-    ensures { λ r. ⌜ r ≡ notesWithin bass 104 n ⌝ }
+fn bass_within(bass: [Note; 104], n: usize, edition: Edition) -> bool
+    ensures { λ r. ⌜ r ≡ notesWithin edition false bass 104 n ⌝ }
 {
     if n > 104 {
         return false;
@@ -107,7 +128,7 @@ fn bass_within(bass: [Note; 104], n: usize) -> bool
     let mut i: usize = 0;
     while i < n {
         let note = bass[i];
-        let fits = note_within(note);
+        let fits = note_within(note, edition, false);
         ok = ok & fits;
         i += 1;
     }
@@ -161,8 +182,8 @@ fn form_within(f: Form) -> bool
     (4 <= f.phrases) & (f.phrases <= 6) & (intro as u16 + body + outro as u16 == f.bars as u16)
 }
 
-fn score_within(s: Score) -> bool
-    ensures { λ r. ⌜ r ≡ scoreWithin s ⌝ }
+fn score_within(s: Score, edition: Edition) -> bool
+    ensures { λ r. ⌜ r ≡ scoreWithin edition s ⌝ }
 {
     let chords = s.bar_chords;
     let lead = s.lead;
@@ -171,10 +192,10 @@ fn score_within(s: Score) -> bool
     let bass = s.bass;
     let a = is_finite(s.bpm);
     let b = chords_within(chords);
-    let c = lead_within(lead, s.lead_count);
-    let d = keys_within(keys, s.keys_count);
+    let c = lead_within(lead, s.lead_count, edition);
+    let d = keys_within(keys, s.keys_count, edition);
     let e = hits_within(hits, s.hit_count);
-    let f = bass_within(bass, s.bass_count);
+    let f = bass_within(bass, s.bass_count, edition);
     a & b & c & d & e & f
 }
 
@@ -185,7 +206,8 @@ pub(crate) fn is_within(v: Song) -> bool
     let score = v.score;
     let scale = v.scale;
     let form = v.form;
-    let a = score_within(score);
+    let edition = v.edition;
+    let a = score_within(score, edition);
     let b = scale_within(scale);
     let c = form_within(form);
     a & b & c

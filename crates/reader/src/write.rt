@@ -28,10 +28,11 @@ fn song_into(v: Song, buf: &mut [u8]) -> Written
     let score = v.score;
     let scale = v.scale;
     let form = v.form;
-    sheet_into(v.seed, score, scale, form, buf)
+    let edition = v.edition;
+    sheet_into(edition, v.seed, score, scale, form, buf)
 }
 
-// The sheet of a song from the buffer's first byte on, and its length; what lies beyond stays. A song that no sheet
+// The sheet of a song, in its edition, from the buffer's first byte on, and its length; what lies beyond stays. A song that no sheet
 // names is refused with 4, then a buffer that is shorter than its sheet with 2; a refusal writes nothing. Whatever the
 // song, it has what the code's types say: what the theorem that a written song is read back asks of a value.
 pub fn write(v: Song, buf: &mut [u8]) -> Written

@@ -25,9 +25,9 @@ fn code(w: Written) -> i64
     }
 }
 
-// Writes the sheet of a seed's song in style 0 or 1 from the buffer's first byte on and answers its
-// length; what lies beyond stays. Any other style is -1, then a buffer that is shorter than this sheet
-// -2; neither writes anything.
+// Writes the sheet of a seed's song in style 0 or 1, in edition 2, from the buffer's first byte on and answers its
+// length; what lies beyond stays. Any other style is -1, then a buffer that is shorter than this sheet -2; neither
+// writes anything.
 #[no_mangle]
 pub extern "C" fn seqochanu_sheet(style: u8, seed: u64, buf: &mut [u8]) -> i64
     ensures { λ r. ⌜ r ≡ codeOf (writtenOf (length (now (buf .entry))) (sheetAsked style seed)) ⌝ }
@@ -59,8 +59,8 @@ pub extern "C" fn seqochanu_hall_list(hall: u64, count: u64, buf: &mut [u8]) -> 
 }
 
 // Reads a sheet, writes what was read again from the buffer's first byte on and answers its length; what lies beyond
-// stays. What is written are the sheet's own bytes. Bytes that are not ten fields of a sheet are -7, only then values
-// out of range -8, then a buffer that is shorter than the sheet -2; none of them writes anything.
+// stays. What is written are the sheet's own bytes, in the edition that it is of. Bytes that are not the fields of a
+// sheet of either edition are -7, only then values out of range -8, then a buffer that is shorter than the sheet -2; none of them writes anything.
 #[no_mangle]
 pub extern "C" fn seqochanu_reread(sheet: &[u8], buf: &mut [u8]) -> i64
     ensures { λ r. ⌜ r ≡ codeOf (writtenOf (length (now (buf .entry))) (rereadAsked (now (sheet .entry)))) ⌝ }

@@ -4,6 +4,9 @@ use borrow.Author.Needs.{needs}
 use Rattle.reader.proofs.cleared.note_zero.Statement.{statement}
 use Rattle.reader.proofs.cleared.note_zero.Tie as tie
 
+number-requires : tie.Need-number-requires
+number-requires c κs = search needs
+
 is-zero-requires : tie.Need-is-zero-requires
 is-zero-requires c κs = search needs
 
@@ -19,4 +22,4 @@ returns c = cc
 
 pub note-zero-spec : {M : Type 1} → statement M
 note-zero-spec =
-    tie.close (tie.spec is-zero-requires is-zero-requires-2 is-zero-requires-3 returns)
+    tie.close (tie.spec number-requires is-zero-requires is-zero-requires-2 is-zero-requires-3 returns)

@@ -23,7 +23,7 @@ size d k h = size-in (d .args .bytes .now) (d .pre .0) k h
 held : (d : tie.Start) → Roomy (d .args .bytes .now)
 held d = d .pre .1
 
-tests-are : (b : List ℕ) {s c f : Bool} → s ≡ scoreWithin (songIn b .score) → c ≡ scaleWithin (songIn b .scale) → f ≡ formWithin (songIn b .form) → (s && c && f) ≡ within (songIn b)
+tests-are : (b : List ℕ) {s c f : Bool} → s ≡ scoreWithin (songIn b .edition) (songIn b .score) → c ≡ scaleWithin (songIn b .scale) → f ≡ formWithin (songIn b .form) → (s && c && f) ≡ within (songIn b)
 unfolding within
 tests-are b p1 p2 p3 = rw (p1, p2, p3)
 

@@ -9,7 +9,7 @@ use Rattle.reader.proofs.read.refused.Statement.{statement}
 use Rattle.reader.proofs.read.refused.Tie as tie
 
 abbrev beside : Outcome → Score → Read
-beside o s = record { outcome = o; song = record { seed = 0; score = s; scale = noSong .scale; form = noSong .form } }
+beside o s = record { outcome = o; song = record { edition = noSong .edition; seed = 0; score = s; scale = noSong .scale; form = noSong .form } }
 
 no-score-requires : tie.Need-no-score-requires
 no-score-requires c κs = search needs

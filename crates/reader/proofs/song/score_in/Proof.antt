@@ -1,4 +1,5 @@
 -- Its parts, each from its field. Assumes nothing.
+use mathlib.Core.Bool.{true, false}
 use mathlib.Core.List.{List}
 use mathlib.Core.Path.{_≡_, sym, ap, _∙_, subst}
 use Prim.Native.Nat.{ℕ, _+_, _/_, _<_}
@@ -16,14 +17,16 @@ use Rattle.composer.specs.declared.note.Note.{Note}
 use Rattle.composer.specs.declared.style.Style.{Style}
 use Rattle.composer.specs.declared.voice.LeadVoice.{LeadVoice}
 use Rattle.pages.specs.Bytes.{byteAt, f32At}
+use Rattle.pages.specs.Edition.{noteWidth}
 use Rattle.reader.specs.Codes.{voiceCoded}
 use Rattle.reader.specs.Inner.Layout.{Roomy}
-use Rattle.reader.specs.Inner.Reading.{notesPass, hitsPass}
-use Rattle.reader.specs.Layout.{bodyAt, sizeAt}
-use Rattle.reader.specs.Song.{notesAt, hitsAt, chordsFrom, scoreIn}
-use Rattle.reader.proofs.LaidLaws.{body-in, size-in, both-are}
+use Rattle.reader.specs.Inner.Reading.{hitsPass}
+use Rattle.reader.specs.Layout.{editionIn, bodyAt, sizeAt}
+use Rattle.reader.specs.Song.{notesAt, hitsAt, chordsFrom, noteCountIn, scoreIn}
+use Rattle.reader.proofs.LaidLaws.{edition-in, body-in, size-in, all-are, both-are}
 use Rattle.reader.proofs.ReadingLaws.{notes-within, hits-within}
 use Rattle.reader.proofs.TestedLaws.{ScoreTold, score-told}
+use Rattle.reader.proofs.WidthLaws.{width-least}
 use borrow.Author.Needs.{needs}
 use Rattle.reader.proofs.song.score_in.Statement.{statement}
 use Rattle.reader.proofs.song.score_in.Tie as tie
@@ -33,6 +36,9 @@ body d k h = body-in (d .args .bytes .now) (d .pre .0) k h
 
 size : (d : tie.Start) (k : ℕ) → k < 10 → getD (d .args .l .sizes) k 0 ≡ sizeAt (d .args .bytes .now) k
 size d k h = size-in (d .args .bytes .now) (d .pre .0) k h
+
+same : (d : tie.Start) → d .args .l .edition ≡ editionIn (d .args .bytes .now)
+same d = edition-in (d .args .bytes .now) (d .pre .0)
 
 held : (d : tie.Start) → Roomy (d .args .bytes .now)
 held d = d .pre .1 .0
@@ -45,8 +51,8 @@ score-is : (b : List ℕ) {style : Style} {bpm : Float} {chords : List Chord} {l
     → record { style = style; bpm = bpm; «bar_chords» = chords; lead = lead; «lead_count» = l; keys = keys; «keys_count» = k; hits = hits; «hit_count» = h; bass = bass; «bass_count» = m; «lead_voice» = voice } ≡ scoreIn b
 score-is b p1 p2 p3 p4 p5 p6 p7 p8 p9 p10 p11 p12 = rw (p1, p2, p3, p4, p5, p6, p7, p8, p9, p10, p11, p12)
 
-told : (d : tie.Start) → ScoreTold (scoreIn (d .args .bytes .now))
-told d = score-told (scoreIn (d .args .bytes .now)) (d .pre .1 .1)
+told : (d : tie.Start) → ScoreTold (editionIn (d .args .bytes .now)) (scoreIn (d .args .bytes .now))
+told d = score-told (editionIn (d .args .bytes .now)) (scoreIn (d .args .bytes .now)) (d .pre .1 .1)
 
 array-read-byte-in : tie.Need-array-read-byte-in
 array-read-byte-in c = search needs
@@ -85,35 +91,56 @@ array-read-chords-from c = search needs
 chords-from-requires : tie.Need-chords-from-requires
 chords-from-requires c κs = let d = c .before .before .before .before .before .before .before .before in omega (arith, body d 2 (omega arith), held d .chords)
 
+note-width-requires : tie.Need-note-width-requires
+note-width-requires c κs = search needs
+
+array-read-lead-count : tie.Need-array-read-lead-count
+array-read-lead-count c = search needs
+
+div-lead-count : tie.Need-div-lead-count
+div-lead-count c =
+    let d = c .before .before .before .before .before .before .before .before .before .before in
+    omega (arith, c .note-width .ensures, width-least (d .args .l .edition))
+
+array-read-keys-count : tie.Need-array-read-keys-count
+array-read-keys-count c = search needs
+
+div-keys-count : tie.Need-div-keys-count
+div-keys-count c =
+    let d = c .before .before .before .before .before .before .before .before .before .before in
+    omega (arith, c .note-width .ensures, width-least (d .args .l .edition))
+
+array-read-bass-count : tie.Need-array-read-bass-count
+array-read-bass-count c = search needs
+
+div-bass-count : tie.Need-div-bass-count
+div-bass-count c =
+    let d = c .before .before .before .before .before .before .before .before .before .before in
+    omega (arith, c .note-width .ensures, width-least (d .args .l .edition))
+
 array-read-lead-at : tie.Need-array-read-lead-at
 array-read-lead-at c = search needs
-
-array-read-lead-at-2 : tie.Need-array-read-lead-at-2
-array-read-lead-at-2 c = search needs
 
 lead-at-requires : tie.Need-lead-at-requires
 unfolding scoreIn
 lead-at-requires c κs =
-    let d = c .before .before .before .before .before .before .before .before .before in
-    let b = d .args .bytes .now in (
-      (omega (arith, body d 4 (omega arith), size d 4 (omega arith), held d .lead), omega (arith, size d 4 (omega arith), held d .lead-few)),
-      both-are (λ a n. notesPass b a (n / 14)) (body d 4 (omega arith)) (size d 4 (omega arith)) ∙ notes-within b (bodyAt b 4) 56 (sizeAt b 4 / 14) (held d .lead-few) ∙ told d .lead,
-    )
+    let d = c .before .before .before .before .before .before .before .before .before .before in
+    let b = d .args .bytes .now in
+    let wide = c .note-width .ensures ∙ ap noteWidth (same d) in
+    rw (body d 4 (omega arith), size d 4 (omega arith), wide, same d)
+    ((held d .lead, held d .lead-few), notes-within (editionIn b) true b (bodyAt b 4) 56 (noteCountIn b 4) (held d .lead-few) ∙ told d .lead)
 
 array-read-keys-at : tie.Need-array-read-keys-at
 array-read-keys-at c = search needs
 
-array-read-keys-at-2 : tie.Need-array-read-keys-at-2
-array-read-keys-at-2 c = search needs
-
 keys-at-requires : tie.Need-keys-at-requires
 unfolding scoreIn
 keys-at-requires c κs =
-    let d = c .before .before .before .before .before .before .before .before .before .before in
-    let b = d .args .bytes .now in (
-      (omega (arith, body d 5 (omega arith), size d 5 (omega arith), held d .keys), omega (arith, size d 5 (omega arith), held d .keys-few)),
-      both-are (λ a n. notesPass b a (n / 14)) (body d 5 (omega arith)) (size d 5 (omega arith)) ∙ notes-within b (bodyAt b 5) 128 (sizeAt b 5 / 14) (held d .keys-few) ∙ told d .keys,
-    )
+    let d = c .before .before .before .before .before .before .before .before .before .before .before in
+    let b = d .args .bytes .now in
+    let wide = c .before .note-width .ensures ∙ ap noteWidth (same d) in
+    rw (body d 5 (omega arith), size d 5 (omega arith), wide, same d)
+    ((held d .keys, held d .keys-few), notes-within (editionIn b) false b (bodyAt b 5) 128 (noteCountIn b 5) (held d .keys-few) ∙ told d .keys)
 
 array-read-hits-at : tie.Need-array-read-hits-at
 array-read-hits-at c = search needs
@@ -124,7 +151,7 @@ array-read-hits-at-2 c = search needs
 hits-at-requires : tie.Need-hits-at-requires
 unfolding scoreIn
 hits-at-requires c κs =
-    let d = c .before .before .before .before .before .before .before .before .before .before .before in
+    let d = c .before .before .before .before .before .before .before .before .before .before .before .before in
     let b = d .args .bytes .now in (
       (omega (arith, body d 6 (omega arith), size d 6 (omega arith), held d .hits), omega (arith, size d 6 (omega arith), held d .hits-few)),
       both-are (λ a n. hitsPass b a (n / 10)) (body d 6 (omega arith)) (size d 6 (omega arith)) ∙ hits-within b (bodyAt b 6) 98 (sizeAt b 6 / 10) (held d .hits-few) ∙ told d .hits,
@@ -133,48 +160,37 @@ hits-at-requires c κs =
 array-read-bass-at : tie.Need-array-read-bass-at
 array-read-bass-at c = search needs
 
-array-read-bass-at-2 : tie.Need-array-read-bass-at-2
-array-read-bass-at-2 c = search needs
-
 bass-at-requires : tie.Need-bass-at-requires
 unfolding scoreIn
 bass-at-requires c κs =
-    let d = c .before .before .before .before .before .before .before .before .before .before .before .before in
-    let b = d .args .bytes .now in (
-      (omega (arith, body d 7 (omega arith), size d 7 (omega arith), held d .bass), omega (arith, size d 7 (omega arith), held d .bass-few)),
-      both-are (λ a n. notesPass b a (n / 14)) (body d 7 (omega arith)) (size d 7 (omega arith)) ∙ notes-within b (bodyAt b 7) 104 (sizeAt b 7 / 14) (held d .bass-few) ∙ told d .bass,
-    )
+    let d = c .before .before .before .before .before .before .before .before .before .before .before .before .before in
+    let b = d .args .bytes .now in
+    let wide = c .before .before .before .note-width .ensures ∙ ap noteWidth (same d) in
+    rw (body d 7 (omega arith), size d 7 (omega arith), wide, same d)
+    ((held d .bass, held d .bass-few), notes-within (editionIn b) false b (bodyAt b 7) 104 (noteCountIn b 7) (held d .bass-few) ∙ told d .bass)
 
-array-read-t17 : tie.Need-array-read-t17
-array-read-t17 c = search needs
-
-array-read-t29 : tie.Need-array-read-t29
-array-read-t29 c = search needs
-
-array-read-t49 : tie.Need-array-read-t49
-array-read-t49 c = search needs
-
-array-read-t53 : tie.Need-array-read-t53
-array-read-t53 c = search needs
+array-read-t44 : tie.Need-array-read-t44
+array-read-t44 c = search needs
 
 returns : tie.Need-returns
 unfolding scoreIn
 returns c =
-    let d = c .before .before .before .before .before .before .before .before .before .before .before .before .before in
+    let d = c .before .before .before .before .before .before .before .before .before .before .before .before .before .before in
     let b = d .args .bytes .now in
+    let wide = c .before .before .before .before .note-width .ensures ∙ ap noteWidth (same d) in
     score-is b
-    (c .before .before .before .before .before .before .before .style-by .ensures ∙ ap styleBy (c .before .before .before .before .before .before .before .before .before .byte-in .ensures ∙ ap (byteAt b) (body d 0 (omega arith))))
-    (c .before .before .before .before .before .f32-at .ensures ∙ ap (f32At b) (body d 1 (omega arith)))
-    (c .before .before .before .before .chords-from .ensures ∙ ap (chordsFrom b) (body d 2 (omega arith)))
-    (c .before .before .before .lead-at .ensures ∙ both-are (λ a n. pad noNote 56 (notesAt b a (n / 14))) (body d 4 (omega arith)) (size d 4 (omega arith)))
-    (ap (λ (n : ℕ). n / 14) (size d 4 (omega arith)))
-    (c .before .before .keys-at .ensures ∙ both-are (λ a n. pad noNote 128 (notesAt b a (n / 14))) (body d 5 (omega arith)) (size d 5 (omega arith)))
-    (ap (λ (n : ℕ). n / 14) (size d 5 (omega arith)))
+    (c .before .before .before .before .before .before .before .before .style-by .ensures ∙ ap styleBy (c .before .before .before .before .before .before .before .before .before .before .byte-in .ensures ∙ ap (byteAt b) (body d 0 (omega arith))))
+    (c .before .before .before .before .before .before .f32-at .ensures ∙ ap (f32At b) (body d 1 (omega arith)))
+    (c .before .before .before .before .before .chords-from .ensures ∙ ap (chordsFrom b) (body d 2 (omega arith)))
+    (c .before .before .before .lead-at .ensures ∙ all-are (λ e a n w. pad noNote 56 (notesAt e true b a (n / w))) (same d) (body d 4 (omega arith)) (size d 4 (omega arith)) wide)
+    (both-are (λ n w. n / w) (size d 4 (omega arith)) wide)
+    (c .before .before .keys-at .ensures ∙ all-are (λ e a n w. pad noNote 128 (notesAt e false b a (n / w))) (same d) (body d 5 (omega arith)) (size d 5 (omega arith)) wide)
+    (both-are (λ n w. n / w) (size d 5 (omega arith)) wide)
     (c .before .hits-at .ensures ∙ both-are (λ a n. pad noHit 98 (hitsAt b a (n / 10))) (body d 6 (omega arith)) (size d 6 (omega arith)))
     (ap (λ (n : ℕ). n / 10) (size d 6 (omega arith)))
-    (c .bass-at .ensures ∙ both-are (λ a n. pad noNote 104 (notesAt b a (n / 14))) (body d 7 (omega arith)) (size d 7 (omega arith)))
-    (ap (λ (n : ℕ). n / 14) (size d 7 (omega arith)))
-    (c .before .before .before .before .before .before .voice-coded .ensures ∙ ap voiceCoded (c .before .before .before .before .before .before .before .before .byte-in2 .ensures ∙ ap (λ (a : ℕ). byteAt b (a + 9)) (body d 0 (omega arith))))
+    (c .bass-at .ensures ∙ all-are (λ e a n w. pad noNote 104 (notesAt e false b a (n / w))) (same d) (body d 7 (omega arith)) (size d 7 (omega arith)) wide)
+    (both-are (λ n w. n / w) (size d 7 (omega arith)) wide)
+    (c .before .before .before .before .before .before .before .voice-coded .ensures ∙ ap voiceCoded (c .before .before .before .before .before .before .before .before .before .byte-in2 .ensures ∙ ap (λ (a : ℕ). byteAt b (a + 9)) (body d 0 (omega arith))))
 
 pub score-in-spec : {M : Type 1} → statement M
 score-in-spec =
@@ -191,20 +207,21 @@ score-in-spec =
     f32-at-requires
     array-read-chords-from
     chords-from-requires
+    note-width-requires
+    array-read-lead-count
+    div-lead-count
+    array-read-keys-count
+    div-keys-count
+    array-read-bass-count
+    div-bass-count
     array-read-lead-at
-    array-read-lead-at-2
     lead-at-requires
     array-read-keys-at
-    array-read-keys-at-2
     keys-at-requires
     array-read-hits-at
     array-read-hits-at-2
     hits-at-requires
     array-read-bass-at
-    array-read-bass-at-2
     bass-at-requires
-    array-read-t17
-    array-read-t29
-    array-read-t49
-    array-read-t53
+    array-read-t44
     returns)

@@ -5,7 +5,7 @@ use native.Mathlib.Omega.{arith}
 use lib.ListN.{getD}
 use Rattle.reader.specs.Inner.Layout.{Roomy}
 use Rattle.reader.specs.Layout.{bodyAt, sizeAt}
-use Rattle.reader.proofs.LaidLaws.{body-in, size-in}
+use Rattle.reader.proofs.LaidLaws.{edition-in, body-in, size-in}
 use Rattle.reader.specs.Song.{songIn}
 use Rattle.reader.proofs.TestedLaws.{within-told}
 use borrow.Author.Needs.{needs}
@@ -48,7 +48,7 @@ form-in-requires c κs = search needs
 
 returns : tie.Need-returns
 unfolding songIn
-returns c = let d = c .before .before .before .before .before .before .before in rw (c .form-in .ensures, c .before .scale-at .ensures, c .before .before .score-in .ensures, c .before .before .before .u64-at .ensures, body d 0 (omega arith), body d 3 (omega arith), size d 3 (omega arith))
+returns c = let d = c .before .before .before .before .before .before .before in rw (edition-in (d .args .bytes .now) (d .pre .0), c .form-in .ensures, c .before .scale-at .ensures, c .before .before .score-in .ensures, c .before .before .before .u64-at .ensures, body d 0 (omega arith), body d 3 (omega arith), size d 3 (omega arith))
 
 pub song-in-spec : {M : Type 1} → statement M
 song-in-spec =

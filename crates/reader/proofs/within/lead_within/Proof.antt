@@ -1,4 +1,5 @@
 -- The events tested so far, one more with each turn. Assumes nothing.
+use mathlib.Core.Bool.{true}
 use mathlib.Core.Path.{_≡_, refl}
 use Prim.Native.Nat.{_-_, _≤_}
 use native.Mathlib.Numerals.{add-one}
@@ -13,10 +14,10 @@ use Rattle.reader.proofs.within.lead_within.Statement.{statement}
 use Rattle.reader.proofs.within.lead_within.Tie as tie
 
 abbrev Inv-loop : tie.InvT-loop
-Inv-loop n lead ok₀ i₀ ok i = (i ≤ n) × (ok ≡ allTo (λ k. noteWithin (getD lead k pastNote)) i)
+Inv-loop n edition lead ok₀ i₀ ok i = (i ≤ n) × (ok ≡ allTo (λ k. noteWithin edition true (getD lead k pastNote)) i)
 
 abbrev μ-loop : tie.MeasureT-loop
-μ-loop n lead ok₀ i₀ ok i = n - i
+μ-loop n edition lead ok₀ i₀ ok i = n - i
 
 returns : tie.Need-returns Inv-loop μ-loop
 unfolding notesWithin

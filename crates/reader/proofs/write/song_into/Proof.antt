@@ -15,7 +15,7 @@ shaped d = song-typed (d .args .v) _ (d .good .0) .shape
 can-write : (d : tie.Start) → Writable (d .args .v .score)
 can-write d =
     let t = shaped d in
-    told-writable (d .args .v .score) (within-told (d .args .v) (d .pre) .0) (t .lead .size) (t .keys .size) (t .hits .size) (t .bass .size)
+    told-writable (d .args .v .edition) (d .args .v .score) (within-told (d .args .v) (d .pre) .0) (t .lead .size) (t .keys .size) (t .hits .size) (t .bass .size)
 
 few : (d : tie.Start) → (d .args .v .scale .n ≤ 6) × (d .args .v .form .bars ≤ 64)
 few d =
