@@ -9,8 +9,12 @@
  *   -2  the buffer is shorter than this very sheet, page or list
  *   -3  the song has no such bar
  *   -6  the count is outside 1 to 4,096
- *   -7  a field of the sheet is missing, cut off, misplaced or trailing, or has a length that no sheet has there
+ *   -7  a field of the sheet is missing, cut off, misplaced or trailing, or has a length that no sheet has there, or
+ *       0x00 has another body than 2
  *   -8  a value of the sheet is out of range, or its field 0x0A has another length than the song
+ *
+ * Sheets and pages are written in edition 2: they begin with the field 0x00, and each note ends with its role. A sheet
+ * whose first byte is not 0x00 is of edition 1, whose notes have no roles. It is still read. docs/FORMAT.md has both.
  *
  * A refusal writes nothing; bytes beyond those written keep their values. No function keeps anything between calls,
  * so calls with different buffers may run at the same time, also where they read the same sheet. Nothing is allocated:
@@ -31,28 +35,28 @@
 extern "C" {
 #endif
 
-/* No sheet, page or list is longer, in bytes, no song has more bars, and no list more seeds. */
-#define SEQOCHANU_SHEET_MOST 5164
-#define SEQOCHANU_PAGE_MOST 663
+/* No sheet of either edition, page or list is longer, in bytes, no song has more bars, and no list more seeds. */
+#define SEQOCHANU_SHEET_MOST 5456
+#define SEQOCHANU_PAGE_MOST 703
 #define SEQOCHANU_LIST_MOST 32768
 #define SEQOCHANU_BARS_MOST 64
 #define SEQOCHANU_COUNT_MOST 4096
 
-/* Writes the whole song's sheet and answers its length; else -1, then -2. */
+/* Writes the whole song's sheet, in edition 2, and answers its length; else -1, then -2. */
 int64_t seqochanu_sheet(uint8_t style, uint64_t seed, uint8_t *buf, size_t len);
 
-/* Writes the page of song bar `bar`, counted from 0, and answers its length; else -1, then -3, then -2. A hit that
- * falls before its bar line stands on the page of the bar before; docs/FORMAT.md has the rule. */
+/* Writes the page of song bar `bar`, counted from 0, in edition 2, and answers its length; else -1, then -3, then -2.
+ * A hit that falls before its bar line stands on the page of the bar before; docs/FORMAT.md has the rule. */
 int64_t seqochanu_bar_page(uint8_t style, uint64_t seed, uint64_t bar, uint8_t *buf, size_t len);
 
 /* Writes the first `count` seeds of a hall, each in 8 bytes, the highest first, and answers 8 * count; else -6, then
  * -2. No two seeds of a list are equal, and a longer list of the same hall starts with the shorter one. */
 int64_t seqochanu_hall_list(uint64_t hall, uint64_t count, uint8_t *buf, size_t len);
 
-/* Reads a sheet, writes what was read again and answers its length; else -7, then -8, then -2. What is written equals
- * the sheet that was read, byte for byte. A fault in the fields anywhere comes before a bad value anywhere. Nothing is
- * composed: a sheet may be read that no style and seed give. With a buffer of no bytes, -2 says that the bytes are a
- * sheet. docs/FORMAT.md says which are. */
+/* Reads a sheet of either edition, writes what was read again, in that edition, and answers its length; else -7, then
+ * -8, then -2. What is written equals the sheet that was read, byte for byte. A fault in the fields anywhere comes
+ * before a bad value anywhere. Nothing is composed: a sheet may be read that no style and seed give. With a buffer of
+ * no bytes, -2 says that the bytes are a sheet. docs/FORMAT.md says which are. */
 int64_t seqochanu_reread(const uint8_t *sheet, size_t sheet_len, uint8_t *buf, size_t len);
 
 #ifdef __cplusplus

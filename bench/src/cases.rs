@@ -5,7 +5,9 @@ use crate::compose::reach::STYLES;
 use crate::compose::song::{Song, song};
 use crate::compose::{Form, arrange};
 use crate::seqochanu::raw::seqochanu_hall_list;
-use crate::seqochanu::{self, COUNT_MOST, LIST_MOST, PAGE_MOST, Refusal, SHEET_MOST, Style};
+use crate::seqochanu::{
+    self, COUNT_MOST, Edition, LIST_MOST, PAGE_MOST, Refusal, Role, SHEET_MOST, Sheet, Style,
+};
 use crate::{sum, writer};
 use std::hint::black_box;
 
@@ -27,14 +29,15 @@ mod raw {
     }
 }
 
-/// A song to be made, how many bars it has, which a player has read on its sheet, and that sheet, to be read back. To
-/// a case of halls its seed is a hall's number.
+/// A song to be made, how many bars it has, which a player has read on its sheet, and that sheet, to be read back, in
+/// edition 2 and in edition 1. To a case of halls its seed is a hall's number.
 #[derive(Clone, Copy)]
 pub struct Asked {
     pub style: u8,
     pub seed: u64,
     pub bars: u64,
     pub sheet: &'static [u8],
+    pub old_sheet: &'static [u8],
 }
 
 impl Asked {
@@ -42,14 +45,21 @@ impl Asked {
     pub fn new(style: u8, i: u64) -> Self {
         let seed = if i % 2 == 0 { i } else { i.reverse_bits() };
         let bars = arrange(seed).bars() as u64;
-        // kept to the end of the run, so that a round finds the sheet made
+        // kept to the end of the run, so that a round finds the sheets made
         let sheet = seqochanu::sheet_vec(ours(style), seed).leak();
+        let old_sheet = in_edition_1(sheet).leak();
         Self {
             style,
             seed,
             bars,
             sheet,
+            old_sheet,
         }
+    }
+
+    /// The sheet in both editions.
+    pub fn sheets(self) -> [&'static [u8]; 2] {
+        [self.sheet, self.old_sheet]
     }
 
     pub fn ours(self) -> Style {
@@ -66,11 +76,24 @@ fn ours(style: u8) -> Style {
     Style::try_from(style).expect("both styles are asked for")
 }
 
-/// One way to do a case: it answers a number that tells its work. Where the sheets are to be at hand, each of their
-/// bytes is looked at before the side's turn. Instructions are counted but where another case has the same.
+/// A song's sheet in edition 1, where no note has a role.
+fn in_edition_1(sheet: &[u8]) -> Vec<u8> {
+    let mut sheet = Sheet::parse(sheet).expect("a song's sheet");
+    sheet.edition = Edition::One;
+    for note in &mut sheet.lead {
+        note.role = Role::Backing;
+    }
+    sheet.to_bytes().expect("a sheet of edition 1")
+}
+
+/// One of a song's sheets.
+type OneOf = fn(Asked) -> &'static [u8];
+
+/// One way to do a case: it answers a number that tells its work. Where sheets are to be at hand, each of their bytes
+/// is looked at before the side's turn. Instructions are counted but where another case has the same.
 pub struct Side {
     pub name: &'static str,
-    pub at_hand: bool,
+    pub at_hand: Option<OneOf>,
     pub counted: bool,
     pub run: Box<dyn FnMut(Asked) -> u64>,
 }
@@ -107,7 +130,7 @@ fn side(name: &'static str, run: impl FnMut(Asked) -> u64 + 'static) -> Side {
     let run = Box::new(run);
     Side {
         name,
-        at_hand: false,
+        at_hand: None,
         counted: true,
         run,
     }
@@ -222,14 +245,14 @@ fn rust_composing(name: &'static str) -> Side {
 
 /// A case of sheets read, beside composing them, which another case counts. A sheet from memory takes the same
 /// instructions as one at hand.
-fn beside_composing(name: &'static str, at_hand: bool, reading: Side) -> Case {
+fn beside_composing(name: &'static str, at_hand: Option<OneOf>, reading: Side) -> Case {
     let uncounted = |side| Side {
         counted: false,
         ..side
     };
     let reading = Side {
         at_hand,
-        counted: at_hand,
+        counted: at_hand.is_some(),
         ..reading
     };
     Case {
@@ -245,12 +268,12 @@ fn beside_composing(name: &'static str, at_hand: bool, reading: Side) -> Case {
 }
 
 /// A sheet read and not written: a buffer of no bytes is refused only when the whole sheet is read.
-fn reading(name: &'static str, at_hand: bool) -> Case {
-    let reading = |a: Asked| match black_box(seqochanu::reread(a.sheet, &mut [])) {
-        Err(Refusal::ShortBuffer) => a.sheet.len() as u64,
+fn reading(name: &'static str, sheet: OneOf, at_hand: bool) -> Case {
+    let reading = move |a: Asked| match black_box(seqochanu::reread(sheet(a), &mut [])) {
+        Err(Refusal::ShortBuffer) => sheet(a).len() as u64,
         other => panic!("{other:?} for a song's sheet"),
     };
-    beside_composing(name, at_hand, side("reading", reading))
+    beside_composing(name, at_hand.then_some(sheet), side("reading", reading))
 }
 
 /// A sheet read, and what was read written again.
@@ -261,7 +284,11 @@ fn rereading() -> Case {
         black_box(&buf)[..len].len() as u64
     };
     let name = "sheet read and written again";
-    beside_composing(name, true, side("reading and writing", rereading))
+    beside_composing(
+        name,
+        Some(|a| a.sheet),
+        side("reading and writing", rereading),
+    )
 }
 
 /// The refusal of a sheet that is read into a song; 0 for none.
@@ -275,7 +302,8 @@ fn reading_a_song() -> Case {
         assert_eq!(black_box(read(a.sheet)), 0, "a song's sheet");
         a.sheet.len() as u64
     };
-    beside_composing("sheet read into a song", true, side("reading", reading))
+    let name = "sheet read into a song";
+    beside_composing(name, Some(|a| a.sheet), side("reading", reading))
 }
 
 /// The refusal of a sheet that is read into a song, which the canonical writer then writes; 0 for none.
@@ -291,17 +319,18 @@ fn round_tripping() -> Case {
         black_box(&buf)[..a.sheet.len()].len() as u64
     };
     let name = "sheet read into a song, and the song written";
-    beside_composing(name, true, side("reading and writing", trip))
+    beside_composing(name, Some(|a| a.sheet), side("reading and writing", trip))
 }
 
 pub fn of_songs() -> [Case; 3] {
     [songs(), sheets(), pages()]
 }
 
-pub fn of_readings() -> [Case; 5] {
+pub fn of_readings() -> [Case; 6] {
     [
-        reading("sheet read", true),
-        reading("sheet read from memory", false),
+        reading("sheet read", |a| a.sheet, true),
+        reading("sheet read from memory", |a| a.sheet, false),
+        reading("sheet of edition 1 read", |a| a.old_sheet, true),
         rereading(),
         reading_a_song(),
         round_tripping(),
@@ -317,16 +346,20 @@ pub fn all() -> impl Iterator<Item = Case> {
     of_sheets.chain(of_halls())
 }
 
-/// Stops where our libraries and the Rust differ on a song: then the times would not be those of the same work.
+/// Stops where our libraries and the Rust differ on a song: then the times would not be those of the same work. The
+/// roles are left out, as the Rust tells none: for this once they are taken from our sheet.
 pub fn check(a: Asked) {
-    let (song, form) = a.rust();
+    let (mut song, form) = a.rust();
+    let told = Sheet::parse(a.sheet).expect("a song's sheet").lead;
+    for (role, note) in song.roles.iter_mut().zip(told) {
+        *role = note.role as u8;
+    }
     let rust = sum::kept(&song, &form) + sum::bars(&song);
     let what = format!("of {:#x} in style {}", a.seed, a.style);
     assert_eq!(raw::probe_song(a.style, a.seed), rust, "the sum {what}");
     let mut bytes = [0; SHEET_MOST];
     let len = writer::sheet(a.style, a.seed, &song, &form, &mut bytes);
-    let ours = seqochanu::sheet_vec(a.ours(), a.seed);
-    assert_eq!(ours, &bytes[..len], "the sheet {what}");
+    assert_eq!(a.sheet, &bytes[..len], "the sheet {what}");
     let mut bars = 0;
     for (bar, ours) in seqochanu::pages(a.ours(), a.seed).enumerate() {
         let len = writer::page(&song, &form, bar, &mut bytes);
@@ -336,19 +369,21 @@ pub fn check(a: Asked) {
     assert_eq!(bars, a.bars, "the pages {what}");
 }
 
-/// Stops where a song's sheet is not read, or is not written again byte for byte.
+/// Stops where a song's sheet, of either edition, is not read, or is not written again byte for byte.
 pub fn check_reading(a: Asked) {
     let what = format!("the sheet of {:#x} in style {}", a.seed, a.style);
-    let none = seqochanu::reread(a.sheet, &mut []);
-    assert_eq!(none, Err(Refusal::ShortBuffer), "{what}");
-    // no byte is right before the call
-    let mut again: Vec<u8> = a.sheet.iter().map(|byte| !byte).collect();
-    let len = seqochanu::reread(a.sheet, &mut again);
-    assert_eq!(len, Ok(a.sheet.len()), "{what}");
-    assert_eq!(again, a.sheet, "{what}");
-    again.iter_mut().for_each(|byte| *byte = !*byte);
-    assert_eq!(roundtrip(a.sheet, &mut again), 0, "{what}");
-    assert_eq!(again, a.sheet, "{what}, by its song");
+    for sheet in a.sheets() {
+        let none = seqochanu::reread(sheet, &mut []);
+        assert_eq!(none, Err(Refusal::ShortBuffer), "{what}");
+        // no byte is right before the call
+        let mut again: Vec<u8> = sheet.iter().map(|byte| !byte).collect();
+        let len = seqochanu::reread(sheet, &mut again);
+        assert_eq!(len, Ok(sheet.len()), "{what}");
+        assert_eq!(again, sheet, "{what}");
+        again.iter_mut().for_each(|byte| *byte = !*byte);
+        assert_eq!(roundtrip(sheet, &mut again), 0, "{what}");
+        assert_eq!(again, sheet, "{what}, by its song");
+    }
 }
 
 /// Stops where our list of a hall and that of plain C differ.

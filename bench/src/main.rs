@@ -15,7 +15,7 @@ mod style;
 #[allow(dead_code)]
 mod synth;
 
-// of the list, our wrapper's C function alone is asked for: its safe call makes a vector; `Sheet` is not used
+// of the list, our wrapper's C function alone is asked for: its safe call makes a vector
 #[allow(dead_code)]
 mod seqochanu;
 

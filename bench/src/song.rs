@@ -3,16 +3,26 @@
 use super::{DrumKind, Hit, Note, Score};
 use crate::style::Style;
 
-/// A score, and the scale that the lead sings, which `compose` drops.
+/// The most notes that the lead has, and the role that stands for all of theirs.
+const LEAD_MOST: usize = 56;
+const STAND_IN: u8 = 4;
+
+/// A score, the scale that the lead sings, which `compose` drops, and the numbers of the lead notes' roles.
 pub(crate) struct Song {
     pub(crate) score: Score,
     pub(crate) scale: Vec<u8>,
+    pub(crate) roles: [u8; LEAD_MOST],
 }
 
+/// The Rust's `melody` works a role out for each note and drops it, so all are given the same one here. What the
+/// Rust's side saves by that is to keep a byte for each lead note.
 pub(crate) fn song(style: &'static Style, seed: u64) -> Song {
     let (score, harmony) = super::composed(style, seed);
-    let scale = harmony.melody_pcs;
-    Song { score, scale }
+    Song {
+        score,
+        scale: harmony.melody_pcs,
+        roles: [STAND_IN; LEAD_MOST],
+    }
 }
 
 /// The loop bar of a note, which the Rust does not keep: each starts at least 10 ms into its bar and well before

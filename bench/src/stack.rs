@@ -80,8 +80,8 @@ fn rereadings(songs: &[Asked]) -> usize {
     let mut buf = [0u8; SHEET_MOST];
     let (bytes, len) = (buf.as_mut_ptr() as u64, SHEET_MOST as u64);
     let function = seqochanu_reread as *const () as usize;
-    let all = songs.iter().map(|a| {
-        let (sheet, sheet_len) = (a.sheet.as_ptr() as u64, a.sheet.len() as u64);
+    let all = songs.iter().flat_map(|a| a.sheets()).map(|sheet| {
+        let (sheet, sheet_len) = (sheet.as_ptr() as u64, sheet.len() as u64);
         call(function, [sheet, sheet_len, bytes, len, 0])
     });
     all.last().expect("a sheet")

@@ -1,17 +1,22 @@
-//! Sheets and bar pages of the Rust's songs by document 01, and a page's hits by document 02's wish 4, into a buffer
-//! of the caller's: one pass over the song, two over a page's hits, nothing allocated, each number written where it
-//! comes to stand.
+//! Sheets and bar pages of the Rust's songs by document 01, a page's hits by document 02's wish 4, and both in edition
+//! 2 by its wish 5, into a buffer of the caller's: one pass over the song, two over a page's hits, nothing allocated,
+//! each number written where it comes to stand.
 
 use crate::compose::reach::form::{dips, intro_code, outro_code, phrases, plays_at};
 use crate::compose::reach::{kind_code, voice_code};
 use crate::compose::song::{HitBars, Song, note_bar};
 use crate::compose::{Form, Hit, Note};
+use std::iter::repeat;
 
 /// The bits of the layers in a bar's plays; the lead plays in the keys' layer.
 const PAD: u64 = 1;
 const KEYS: u64 = 2;
 const DRUMS: u64 = 4;
 const BASS: u64 = 8;
+
+/// The edition that is written, and the role of every note of the keys and the bass.
+const EDITION: u8 = 2;
+const BACKING: u8 = 6;
 
 /// A buffer, and how many bytes of it are written.
 struct Out<'a> {
@@ -53,13 +58,14 @@ impl Out<'_> {
         self.at = end;
     }
 
-    fn note(&mut self, bar: u8, n: &Note) {
-        let e: &mut [u8; 14] = self.take();
+    fn note(&mut self, bar: u8, n: &Note, role: u8) {
+        let e: &mut [u8; 15] = self.take();
         e[0] = bar;
         e[1..5].copy_from_slice(&n.at.to_bits().to_be_bytes());
         e[5] = n.midi;
         e[6..10].copy_from_slice(&n.vel.to_bits().to_be_bytes());
-        e[10..].copy_from_slice(&n.dur.to_bits().to_be_bytes());
+        e[10..14].copy_from_slice(&n.dur.to_bits().to_be_bytes());
+        e[14] = role;
     }
 
     fn hit(&mut self, bar: u8, h: &Hit) {
@@ -68,6 +74,21 @@ impl Out<'_> {
         e[1] = kind_code(h) as u8;
         e[2..6].copy_from_slice(&h.at.to_bits().to_be_bytes());
         e[6..].copy_from_slice(&h.gain.to_bits().to_be_bytes());
+    }
+
+    /// Those notes that are `shown` by their loop bar, each with its role. `bars` is how many bars a second has.
+    fn notes(
+        &mut self,
+        (notes, roles): (&[Note], impl IntoIterator<Item = u8>),
+        bars: f32,
+        shown: impl Fn(u8) -> bool,
+    ) {
+        for (n, role) in notes.iter().zip(roles) {
+            let bar = note_bar(n, bars);
+            if shown(bar) {
+                self.note(bar, n, role);
+            }
+        }
     }
 
     /// Those hits that are `shown` by their loop bar, and by whether they are before its line.
@@ -91,18 +112,14 @@ impl Out<'_> {
     ) {
         let score = &song.score;
         let bars = 1.0 / score.bar_s();
-        let notes = |layer: u64, notes: &[Note], out: &mut Self| {
-            for n in notes {
-                let bar = note_bar(n, bars);
-                if shown(layer, bar) {
-                    out.note(bar, n);
-                }
-            }
-        };
-        self.measured(0x05, |out| notes(KEYS, &score.sparkle, out));
-        self.measured(0x06, |out| notes(KEYS, &score.keys, out));
+        let with_keys = |bar| shown(KEYS, bar);
+        let lead = (&score.sparkle[..], song.roles.iter().copied());
+        self.measured(0x05, |out| out.notes(lead, bars, with_keys));
+        let keys = (&score.keys[..], repeat(BACKING));
+        self.measured(0x06, |out| out.notes(keys, bars, with_keys));
         self.measured(0x07, hits);
-        self.measured(0x08, |out| notes(BASS, &score.bass, out));
+        let bass = (&score.bass[..], repeat(BACKING));
+        self.measured(0x08, |out| out.notes(bass, bars, |bar| shown(BASS, bar)));
     }
 
     fn form(&mut self, form: &Form) {
@@ -125,6 +142,7 @@ impl Out<'_> {
 /// Writes the sheet; its length.
 pub fn sheet(style: u8, seed: u64, song: &Song, form: &Form, buf: &mut [u8]) -> usize {
     let mut out = Out { buf, at: 0 };
+    out.field(0x00, &[EDITION]);
     out.head(0x01, 10);
     *out.take() = [style];
     *out.take() = seed.to_be_bytes();
@@ -143,6 +161,7 @@ pub fn page(song: &Song, form: &Form, bar: usize, buf: &mut [u8]) -> usize {
     let drums = |bar: usize| bar < form.bars() && plays_at(form, bar) & DRUMS != 0;
     let (plays, here, next) = (plays_at(form, bar), shows(bar), shows(bar + 1));
     let mut out = Out { buf, at: 0 };
+    out.field(0x00, &[EDITION]);
     match plays & PAD {
         0 => out.field(0x03, &[]),
         _ => out.field(0x03, &song.score.bar_chords[here]),

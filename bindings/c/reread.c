@@ -1,50 +1,100 @@
-/* reread PAPER [STYLE [LENGTH [ROOM [PLACE BYTE]]]]: reads the sheet of a song back, and prints which fields it has.
+/* reread [-1] PAPER [STYLE [LENGTH [ROOM [PLACE BYTE]]]]: reads the sheet of a song back, and prints which edition it
+ * is of and which fields it has.
  *
- * PAPER is the paper number, STYLE 0 or 1, and 0 where it is left out. The other words spoil the sheet before it is
- * read: LENGTH is how many of its bytes are read, at most the longest sheet's, with zeros behind its own, and BYTE is
- * put at PLACE, counted from 0. ROOM is the length of the buffer for what was read, at most the longest sheet's, which
- * it is where ROOM is left out. Ends with status 1 where a call is refused. */
+ * PAPER is the paper number, STYLE 0 or 1, and 0 where it is left out. With -1 the sheet is first turned into one of
+ * edition 1. The other words spoil the sheet before it is read: LENGTH is how many of its bytes are read, at most the
+ * longest sheet's, with zeros behind its own, and BYTE is put at PLACE, counted from 0. ROOM is the length of the
+ * buffer for what was read, at most the longest sheet's, which it is where ROOM is left out. Ends with status 1 where
+ * a call is refused. */
 #include <stdio.h>
 #include <string.h>
 
 #include "seqochanu.h"
 
 #define PROGRAM "reread"
+#include "fields.h"
 #include "words.h"
 
-/* Prints tag and length of each field. Bytes that were read are a sheet: its ten fields end where it does, so there is
- * nothing to check on the way. */
+/* Puts what edition 1 has of a field to another place, at or before its own: all but the roles of notes. Answers the
+ * length there. */
+static size_t put_field(const uint8_t *field, uint8_t *to) {
+    uint8_t tag = field[0];
+    int has_notes = tag == LEAD || tag == KEYS || tag == BASS;
+    size_t body = body_length(field), kept = 0, i;
+
+    for (i = 0; i < body; i++) {
+        if (!has_notes || i % NOTE != NOTE_ROLE) {
+            to[HEAD + kept++] = field[HEAD + i];
+        }
+    }
+    to[0] = tag;
+    to[1] = (uint8_t)(kept >> 8);
+    to[2] = (uint8_t)kept;
+    return HEAD + kept;
+}
+
+/* Turns a song's sheet into one of edition 1, which has no field 0x00 and no roles, with zeros behind it. Answers its
+ * length. */
+static size_t to_edition_1(uint8_t *sheet, size_t length) {
+    size_t from = HEAD + body_length(sheet), to = 0;
+
+    while (from < length) {
+        size_t field = HEAD + body_length(sheet + from);
+
+        to += put_field(sheet + from, sheet + to);
+        from += field;
+    }
+    memset(sheet + to, 0, length - to);
+    return to;
+}
+
 static void print_fields(const uint8_t *sheet, int64_t length) {
     int64_t at = 0;
 
     while (at < length) {
-        unsigned body = (unsigned)sheet[at + 1] << 8 | sheet[at + 2];
+        size_t body = body_length(sheet + at);
 
-        printf("field %02x: %u bytes\n", sheet[at], body);
-        at += 3 + body;
+        printf("field %02x: %u byte%s\n", sheet[at], (unsigned)body, body == 1 ? "" : "s");
+        at += HEAD + (int64_t)body;
     }
+}
+
+/* Reads so many bytes of a sheet, and prints what they are. */
+static void print_read(const uint8_t *sheet, size_t length, size_t room) {
+    static uint8_t again[SEQOCHANU_SHEET_MOST];
+    int64_t count = written("reading", seqochanu_reread(sheet, length, again, room));
+    int edition = again[0] == 0x00 ? 2 : 1;
+    const char *equal = memcmp(sheet, again, length) == 0 ? "equal" : "not equal";
+
+    printf("read: %lld bytes of edition %d, %s\n", (long long)count, edition, equal);
+    print_fields(again, count);
 }
 
 int main(int argc, char **argv) {
     static uint8_t sheet[SEQOCHANU_SHEET_MOST];
-    static uint8_t again[SEQOCHANU_SHEET_MOST];
+    int is_old = argc > 1 && strcmp(argv[1], "-1") == 0;
     uint64_t paper, place;
     uint8_t style, byte;
     size_t length, room;
     int64_t count;
 
+    argc -= is_old;
+    argv += is_old;
     if (argc < 2 || argc == 6 || argc > 7) {
-        fprintf(stderr, PROGRAM ": give PAPER [STYLE [LENGTH [ROOM [PLACE BYTE]]]]\n");
+        fprintf(stderr, PROGRAM ": give [-1] PAPER [STYLE [LENGTH [ROOM [PLACE BYTE]]]]\n");
         return 2;
     }
     paper = number(argc, argv, 1, UINT64_MAX, 0);
     style = (uint8_t)number(argc, argv, 2, UINT8_MAX, 0);
     length = (size_t)number(argc, argv, 3, sizeof sheet, 0);
-    room = (size_t)number(argc, argv, 4, sizeof again, sizeof again);
+    room = (size_t)number(argc, argv, 4, sizeof sheet, sizeof sheet);
     place = number(argc, argv, 5, sizeof sheet - 1, 0);
     byte = (uint8_t)number(argc, argv, 6, UINT8_MAX, 0);
 
     count = written("sheet", seqochanu_sheet(style, paper, sheet, sizeof sheet));
+    if (is_old) {
+        count = (int64_t)to_edition_1(sheet, (size_t)count);
+    }
     printf("sheet: %lld bytes\n", (long long)count);
     if (argc <= 3) {
         length = (size_t)count;
@@ -52,9 +102,6 @@ int main(int argc, char **argv) {
     if (argc > 6) {
         sheet[place] = byte;
     }
-
-    count = written("reading", seqochanu_reread(sheet, length, again, room));
-    printf("read: %lld bytes, %s\n", (long long)count, memcmp(sheet, again, length) == 0 ? "equal" : "not equal");
-    print_fields(again, count);
+    print_read(sheet, length, room);
     return 0;
 }

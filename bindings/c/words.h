@@ -11,7 +11,7 @@ static const char *refusal(int64_t answer) {
     case -2: return "the buffer is too short";
     case -3: return "the song has no such bar";
     case -6: return "the count is outside 1 to 4,096";
-    case -7: return "a field is missing, cut off, misplaced or trailing, or has a length that no sheet has there";
+    case -7: return "a field is missing, cut off, misplaced or trailing, or has a length or edition that no sheet has";
     case -8: return "a value is out of range, or the field 0x0A has another length than the song";
     default: return "an answer that the header does not have";
     }

@@ -12,7 +12,7 @@ use std::fmt;
 #[path = "sheet.rs"]
 mod sheet;
 #[allow(unused_imports)]
-pub use sheet::{Drum, Ending, EndingKind, Form, Hit, Note, Plays, Sheet, Voice};
+pub use sheet::{Drum, Edition, Ending, EndingKind, Form, Hit, Note, Plays, Role, Sheet, Voice};
 
 /// The C functions as they are declared in include/seqochanu.h.
 pub mod raw {
@@ -30,9 +30,9 @@ pub mod raw {
     }
 }
 
-/// No sheet, page or list is longer, in bytes, and no list has more seeds.
-pub const SHEET_MOST: usize = 5164;
-pub const PAGE_MOST: usize = 663;
+/// No sheet of either edition, page or list is longer, in bytes, and no list has more seeds.
+pub const SHEET_MOST: usize = Edition::Two.sheet_most();
+pub const PAGE_MOST: usize = 703;
 pub const LIST_MOST: usize = 32768;
 pub const COUNT_MOST: u64 = 4096;
 
@@ -80,7 +80,7 @@ impl fmt::Display for Refusal {
             Self::HallCount => "the count is outside 1 to 4,096",
             Self::SheetFields => {
                 "a field of the sheet is missing, cut off, misplaced or trailing, or has a length that no \
-                 sheet has there"
+                 sheet has there, or 0x00 has another body than 2"
             }
             Self::SheetValues => {
                 "a value of the sheet is out of range, or its field 0x0A has another length than the song"
@@ -104,21 +104,22 @@ fn written(answer: i64) -> Result<usize, Refusal> {
     }
 }
 
-/// Writes the sheet of a seed's song from `buf[0]` on; its length. A refusal leaves `buf` as it was.
+/// Writes the sheet of a seed's song, in edition 2, from `buf[0]` on; its length. A refusal leaves `buf` as it was.
 pub fn sheet(style: Style, seed: u64, buf: &mut [u8]) -> Result<usize, Refusal> {
     let (bytes, len) = (buf.as_mut_ptr(), buf.len());
     written(unsafe { raw::seqochanu_sheet(style as u8, seed, bytes, len) })
 }
 
-/// Writes the page of song bar `bar`, counted from 0; its length. A refusal leaves `buf` as it was. A hit that falls
-/// before its bar line stands on the page of the bar before.
+/// Writes the page of song bar `bar`, counted from 0, in edition 2; its length. A refusal leaves `buf` as it was. A
+/// hit that falls before its bar line stands on the page of the bar before.
 pub fn bar_page(style: Style, seed: u64, bar: u64, buf: &mut [u8]) -> Result<usize, Refusal> {
     let (bytes, len) = (buf.as_mut_ptr(), buf.len());
     written(unsafe { raw::seqochanu_bar_page(style as u8, seed, bar, bytes, len) })
 }
 
-/// Reads a sheet and writes what was read again, which equals the sheet; its length. A refusal leaves `buf` as it was.
-/// Nothing is composed: a sheet may be read that no seed gives. `Sheet::parse` says what stands on it.
+/// Reads a sheet of either edition and writes what was read again, which equals the sheet; its length. A refusal
+/// leaves `buf` as it was. Nothing is composed: a sheet may be read that no seed gives. `Sheet::parse` says what
+/// stands on it.
 pub fn reread(sheet: &[u8], buf: &mut [u8]) -> Result<usize, Refusal> {
     let (bytes, len) = (buf.as_mut_ptr(), buf.len());
     written(unsafe { raw::seqochanu_reread(sheet.as_ptr(), sheet.len(), bytes, len) })
@@ -158,8 +159,12 @@ pub fn hall_list(hall: u64, count: u64) -> Result<Vec<u64>, Refusal> {
 }
 
 #[cfg(test)]
-#[path = "hits_tests.rs"]
-mod hits_tests;
+#[path = "pages_tests.rs"]
+mod pages_tests;
+
+#[cfg(test)]
+#[path = "roles_tests.rs"]
+mod roles_tests;
 
 #[cfg(test)]
 mod tests {
@@ -208,14 +213,15 @@ mod tests {
     }
 
     #[test]
-    fn a_sheet_has_ten_fields_and_names_its_song() {
+    fn a_sheet_has_eleven_fields_and_names_its_edition_and_song() {
         for (style, seed) in songs() {
             let sheet = sheet_vec(style, seed);
             let fields = fields(&sheet);
             let tags: Vec<u8> = fields.iter().map(|f| f.0).collect();
-            assert_eq!(tags, (1..=10).collect::<Vec<u8>>());
-            assert_eq!(fields[0].1[0], style as u8);
-            assert_eq!(fields[0].1[1..9], seed.to_be_bytes());
+            assert_eq!(tags, (0..=10).collect::<Vec<u8>>());
+            assert_eq!(fields[0].1, [2]);
+            assert_eq!(fields[1].1[0], style as u8);
+            assert_eq!(fields[1].1[1..9], seed.to_be_bytes());
         }
     }
 
@@ -237,12 +243,14 @@ mod tests {
     fn a_song_has_a_page_for_each_bar_of_its_sheet() {
         for (style, seed) in songs() {
             let sheet = sheet_vec(style, seed);
-            let bars = fields(&sheet)[9].1.len();
+            let bars = fields(&sheet)[10].1.len();
             assert!((32..=64).contains(&bars));
             assert_eq!(pages(style, seed).count(), bars);
             for page in pages(style, seed) {
-                let tags: Vec<u8> = fields(&page).iter().map(|f| f.0).collect();
-                assert_eq!(tags, [3, 5, 6, 7, 8]);
+                let fields = fields(&page);
+                let tags: Vec<u8> = fields.iter().map(|f| f.0).collect();
+                assert_eq!(tags, [0, 3, 5, 6, 7, 8]);
+                assert_eq!(fields[0].1, [2]);
             }
             for bar in [bars as u64, 64, u64::MAX] {
                 let mut buf = marked(PAGE_MOST);

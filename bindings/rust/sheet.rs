@@ -6,6 +6,49 @@
 
 use super::{Refusal, SHEET_MOST, Style, reread};
 
+/// How a sheet is laid out. Songs' sheets are of the second edition; those of the first are still read.
+#[derive(Clone, Copy, Debug, PartialEq, Eq)]
+pub enum Edition {
+    /// its notes have no roles
+    One,
+    Two,
+}
+
+impl Edition {
+    /// The length of its longest sheet, in bytes.
+    pub const fn sheet_most(self) -> usize {
+        match self {
+            Self::One => 5164,
+            Self::Two => 5456,
+        }
+    }
+
+    /// What its sheets begin with, before the ten fields of both editions: the field 0x00, which has its number.
+    const fn opening(self) -> &'static [u8] {
+        match self {
+            Self::One => &[],
+            Self::Two => &[0x00, 0, 1, 2],
+        }
+    }
+
+    /// The bytes of a note; behind those of edition 1 stands its role.
+    const fn note_width(self) -> usize {
+        match self {
+            Self::One => 14,
+            Self::Two => 15,
+        }
+    }
+
+    /// The edition of a sheet that the reader wrote.
+    fn of(sheet: &[u8]) -> Self {
+        if sheet.starts_with(Self::Two.opening()) {
+            Self::Two
+        } else {
+            Self::One
+        }
+    }
+}
+
 /// The lead's voice; its number is the one on the sheet.
 #[derive(Clone, Copy, Debug, PartialEq, Eq)]
 #[repr(u8)]
@@ -16,6 +59,25 @@ pub enum Voice {
     Pluck = 1,
     Kalimba = 2,
     Vibraphone = 3,
+}
+
+/// Why a note is what it is; its number is the one on the sheet.
+#[derive(Clone, Copy, Debug, PartialEq, Eq)]
+#[repr(u8)]
+pub enum Role {
+    /// loop bar 4 opens on the first notes of loop bar 0
+    Quote = 0,
+    /// the last note of loop bar 7
+    Close = 1,
+    /// the first note of loop bar 5, lifted onto a chord tone
+    Peak = 2,
+    /// a step back after a leap
+    Resolve = 3,
+    ChordTone = 4,
+    /// a step or two along the scale
+    Passing = 5,
+    /// a note of the keys or the bass, and on a sheet of edition 1 every note
+    Backing = 6,
 }
 
 /// A kind of drum; its number is the one on the sheet.
@@ -48,6 +110,15 @@ const VOICES: [Voice; 4] = [
     Voice::Kalimba,
     Voice::Vibraphone,
 ];
+const ROLES: [Role; 7] = [
+    Role::Quote,
+    Role::Close,
+    Role::Peak,
+    Role::Resolve,
+    Role::ChordTone,
+    Role::Passing,
+    Role::Backing,
+];
 const DRUMS: [Drum; 4] = [Drum::Kick, Drum::Snare, Drum::Hat, Drum::OpenHat];
 const ENDINGS: [EndingKind; 5] = [
     EndingKind::Cold,
@@ -66,6 +137,7 @@ pub struct Note {
     pub midi: u8,
     pub velocity: f32,
     pub duration: f32,
+    pub role: Role,
 }
 
 /// A drum's hit, with bar and time as a note has them.
@@ -109,6 +181,7 @@ pub struct Form {
 /// `==` takes 0.0 and -0.0 for equal, as it does of every f32; where that counts, compare the bytes.
 #[derive(Clone, Debug, PartialEq)]
 pub struct Sheet {
+    pub edition: Edition,
     pub style: Style,
     pub seed: u64,
     pub voice: Voice,
@@ -126,7 +199,8 @@ pub struct Sheet {
 }
 
 impl Sheet {
-    /// What stands on a sheet. Bytes that are none are refused with `SheetFields`, then `SheetValues`.
+    /// What stands on a sheet, of either edition. Bytes that are none are refused with `SheetFields`, then
+    /// `SheetValues`.
     pub fn parse(bytes: &[u8]) -> Result<Self, Refusal> {
         // no sheet is longer, so the buffer is never too short
         let mut read = [0; SHEET_MOST];
@@ -134,20 +208,28 @@ impl Sheet {
         Ok(Self::taken_apart(&read[..len]))
     }
 
-    /// The sheet's bytes, from which `parse` gives this value again.
+    /// The sheet's bytes, in its edition, from which `parse` gives this value again.
     ///
     /// A value that no sheet has is refused with `Malformed`: one with 57 lead notes or 62 bars, say, with a bar 8 or
-    /// a NaN, or with bars that are not as many as intro, phrases and outro make. No other refusal is given.
+    /// a NaN, with bars that are not as many as intro, phrases and outro make, or with a role that its edition does
+    /// not have there. No other refusal is given.
     pub fn to_bytes(&self) -> Result<Vec<u8>, Refusal> {
         let laid = self.laid_out();
         let mut bytes = vec![0; laid.len()];
         // there is room for what is read, so the refusal is the reader's, which finds no sheet in these bytes
         reread(&laid, &mut bytes).map_err(|_| Refusal::Malformed)?;
-        Ok(bytes)
+        // edition 1 has no place for a role: then these are the bytes of another value, whose notes have none
+        let kept = Self::taken_apart(&bytes) == *self;
+        kept.then_some(bytes).ok_or(Refusal::Malformed)
     }
 
     /// The value of a sheet that the reader wrote, so that every code is known and every list as long as its field.
     fn taken_apart(sheet: &[u8]) -> Self {
+        let edition = Edition::of(sheet);
+        let notes = |lane: &[u8]| {
+            let notes = lane.chunks_exact(edition.note_width());
+            notes.map(Note::at).collect()
+        };
         let [
             song,
             tempo,
@@ -159,18 +241,19 @@ impl Sheet {
             bass,
             form,
             bars,
-        ] = bodies(sheet);
+        ] = bodies(&sheet[edition.opening().len()..]);
         Self {
+            edition,
             style: Style::try_from(song[0]).expect("the reader knows the styles"),
             seed: u64::from_be_bytes(array(&song[1..9])),
             voice: VOICES[usize::from(song[9])],
             tempo: float(tempo),
             chords: std::array::from_fn(|bar| array(&chords[4 * bar..][..4])),
             scale: scale.to_vec(),
-            lead: lead.chunks_exact(14).map(Note::at).collect(),
-            keys: keys.chunks_exact(14).map(Note::at).collect(),
+            lead: notes(lead),
+            keys: notes(keys),
             hits: hits.chunks_exact(10).map(Hit::at).collect(),
-            bass: bass.chunks_exact(14).map(Note::at).collect(),
+            bass: notes(bass),
             form: Form {
                 intro: Ending::at(&form[..2]),
                 phrases: form[2],
@@ -181,9 +264,10 @@ impl Sheet {
         }
     }
 
-    /// The ten fields of this value, be it one that a sheet has or not.
+    /// The fields of this value, be it one that a sheet has or not; in edition 1 its roles are left out.
     fn laid_out(&self) -> Vec<u8> {
-        let notes = |lane: &[Note]| lane.iter().flat_map(Note::bytes).collect::<Vec<u8>>();
+        let note = |note: &Note| note.bytes(self.edition);
+        let notes = |lane: &[Note]| lane.iter().flat_map(note).collect::<Vec<u8>>();
         let Form {
             intro,
             phrases,
@@ -213,29 +297,34 @@ impl Sheet {
             ],
             bars.iter().map(Plays::bits).collect(),
         ];
-        (1..).zip(fields).flat_map(field).collect()
+        let fields = (1..).zip(fields).flat_map(field).collect::<Vec<u8>>();
+        [self.edition.opening(), &fields].concat()
     }
 }
 
 impl Note {
-    /// The note in 14 bytes.
+    /// The note in its bytes, of either edition.
     fn at(bytes: &[u8]) -> Self {
+        let (bytes, role) = bytes.split_at(Edition::One.note_width());
+        let role = role.first().map(|&number| ROLES[usize::from(number)]);
         Self {
             bar: bytes[0],
             time: float(&bytes[1..5]),
             midi: bytes[5],
             velocity: float(&bytes[6..10]),
             duration: float(&bytes[10..]),
+            role: role.unwrap_or(Role::Backing),
         }
     }
 
-    fn bytes(&self) -> [u8; 14] {
-        let mut bytes = [0; 14];
-        bytes[0] = self.bar;
-        bytes[1..5].copy_from_slice(&self.time.to_be_bytes());
-        bytes[5] = self.midi;
-        bytes[6..10].copy_from_slice(&self.velocity.to_be_bytes());
-        bytes[10..].copy_from_slice(&self.duration.to_be_bytes());
+    fn bytes(&self, edition: Edition) -> Vec<u8> {
+        let mut bytes = vec![self.bar];
+        bytes.extend(self.time.to_be_bytes());
+        bytes.push(self.midi);
+        bytes.extend(self.velocity.to_be_bytes());
+        bytes.extend(self.duration.to_be_bytes());
+        bytes.push(self.role as u8);
+        bytes.truncate(edition.note_width());
         bytes
     }
 }
@@ -295,12 +384,12 @@ fn float(bytes: &[u8]) -> f32 {
     f32::from_be_bytes(array(bytes))
 }
 
-/// The bodies of a sheet's ten fields.
-fn bodies(mut sheet: &[u8]) -> [&[u8]; 10] {
+/// The bodies of ten fields.
+fn bodies(mut fields: &[u8]) -> [&[u8]; 10] {
     std::array::from_fn(|_| {
-        let (head, rest) = sheet.split_at(3);
+        let (head, rest) = fields.split_at(3);
         let (body, after) = rest.split_at(u16::from_be_bytes([head[1], head[2]]).into());
-        sheet = after;
+        fields = after;
         body
     })
 }

@@ -1,12 +1,17 @@
-//! Sheets read back: songs' own, and bytes and values that are no sheet's. sheet_values_tests.rs, which uses the
-//! sheets that are made here, tests what each byte means.
+//! Sheets read back, of both editions: songs' own, and bytes and values that are no sheet's. sheet_values_tests.rs and
+//! editions_tests.rs, which use the sheets that are made here, test what each byte means and in what the editions
+//! differ.
 
-use super::super::tests::{marked, songs};
+use super::super::tests::{fields, marked, songs};
 use super::super::{raw, sheet_vec};
 use super::*;
 
+#[path = "editions_tests.rs"]
+mod editions;
 #[path = "sheet_values_tests.rs"]
 mod values;
+
+const EDITIONS: [Edition; 2] = [Edition::One, Edition::Two];
 
 const SILENT: Plays = Plays {
     pad: false,
@@ -20,12 +25,14 @@ const COLD: Ending = Ending {
     bars: 0,
 };
 
+/// A note of the keys or the bass, and of every lane in edition 1.
 const NOTE: Note = Note {
     bar: 7,
     time: f32::MAX,
     midi: 127,
     velocity: -0.0,
     duration: f32::MIN_POSITIVE / 2.0,
+    role: Role::Backing,
 };
 
 const HIT: Hit = Hit {
@@ -35,9 +42,19 @@ const HIT: Hit = Hit {
     gain: f32::MIN,
 };
 
+/// A lead note of this edition.
+fn lead(edition: Edition) -> Note {
+    let role = match edition {
+        Edition::One => Role::Backing,
+        Edition::Two => Role::Passing,
+    };
+    Note { role, ..NOTE }
+}
+
 /// The shortest sheet: no events, and the fewest bars.
-fn bare() -> Sheet {
+fn bare(edition: Edition) -> Sheet {
     Sheet {
+        edition,
         style: Style::Hiphop,
         seed: 0,
         voice: Voice::EpVel,
@@ -58,20 +75,29 @@ fn bare() -> Sheet {
     }
 }
 
+/// Where the ten fields that both editions have begin.
+fn start(edition: Edition) -> usize {
+    match edition {
+        Edition::One => 0,
+        Edition::Two => 4,
+    }
+}
+
 /// The longest sheet: as many events and bars as there may be, the greatest numbers.
-fn full() -> Sheet {
+fn full(edition: Edition) -> Sheet {
     let long = Ending {
         kind: EndingKind::Filter,
         bars: 8,
     };
     Sheet {
+        edition,
         style: Style::Sleep,
         seed: u64::MAX,
         voice: Voice::Vibraphone,
         tempo: f32::MAX,
         chords: [[127; 4]; 8],
         scale: vec![11; 6],
-        lead: vec![NOTE; 56],
+        lead: vec![lead(edition); 56],
         keys: vec![NOTE; 128],
         hits: vec![HIT; 98],
         bass: vec![NOTE; 104],
@@ -88,7 +114,7 @@ fn full() -> Sheet {
 /// A bare sheet of this form, with the bars that its parts make.
 fn formed(intro: Ending, phrases: u8, outro: Ending) -> Sheet {
     let bars = usize::from(intro.bars + 8 * phrases + outro.bars);
-    let mut sheet = bare();
+    let mut sheet = bare(Edition::Two);
     sheet.form = Form {
         intro,
         phrases,
@@ -110,10 +136,10 @@ fn endings() -> Vec<Ending> {
     [&[COLD], long.as_flattened(), &[rings_out]].concat()
 }
 
-/// The bytes of `sheet` with one of them changed.
+/// The bytes of `sheet` with one of them changed; its place is counted from the ten fields' first byte on.
 fn with(sheet: &Sheet, place: usize, byte: u8) -> Vec<u8> {
     let mut bytes = sheet.laid_out();
-    bytes[place] = byte;
+    bytes[start(sheet.edition) + place] = byte;
     bytes
 }
 
@@ -133,11 +159,13 @@ fn unwritten(sheet: &Sheet, refusal: Refusal) {
     refused(&sheet.laid_out(), refusal);
 }
 
-/// A bare sheet with this change is not written, and its bytes are refused so.
-fn refused_with(refusal: Refusal, change: impl FnOnce(&mut Sheet)) {
-    let mut sheet = bare();
-    change(&mut sheet);
-    unwritten(&sheet, refusal);
+/// A bare sheet of either edition with this change is not written, and its bytes are refused so.
+fn refused_with(refusal: Refusal, change: impl Fn(&mut Sheet)) {
+    for edition in EDITIONS {
+        let mut sheet = bare(edition);
+        change(&mut sheet);
+        unwritten(&sheet, refusal);
+    }
 }
 
 #[test]
@@ -146,6 +174,7 @@ fn the_sheet_of_a_song_is_read_and_laid_out_again() {
     for (style, seed) in songs().chain(more) {
         let bytes = sheet_vec(style, seed);
         let sheet = Sheet::parse(&bytes).unwrap();
+        assert_eq!(sheet.edition, Edition::Two);
         assert_eq!((sheet.style, sheet.seed), (style, seed));
         assert_eq!(sheet.to_bytes(), Ok(bytes));
     }
@@ -154,7 +183,8 @@ fn the_sheet_of_a_song_is_read_and_laid_out_again() {
 #[test]
 fn a_sheet_is_written_into_every_buffer_with_room() {
     let songs = songs().map(|(style, seed)| sheet_vec(style, seed));
-    for bytes in songs.chain([bare().laid_out(), full().laid_out()]) {
+    let made = EDITIONS.map(|edition| [bare(edition).laid_out(), full(edition).laid_out()]);
+    for bytes in songs.chain(made.into_iter().flatten()) {
         let len = bytes.len();
         for room in [len, len + 1, SHEET_MOST + 9] {
             let mut buf = marked(room);
@@ -172,40 +202,50 @@ fn a_sheet_is_written_into_every_buffer_with_room() {
 
 #[test]
 fn a_fault_in_the_fields_is_refused() {
-    let bytes = bare().laid_out();
-    for len in 0..bytes.len() {
-        refused(&bytes[..len], Refusal::SheetFields);
-    }
-    for more in [1, 3, 119, 5164, 70000] {
-        refused(&[&bytes[..], &vec![0; more]].concat(), Refusal::SheetFields);
-    }
-    // where the ten heads stand in a bare sheet; a tag or a length that is another's, by each bit
-    for place in [0, 13, 20, 55, 63, 66, 69, 72, 75, 84] {
-        for head in [place, place + 1, place + 2] {
-            for bit in 0..8 {
-                let bytes = with(&bare(), head, bytes[head] ^ 1 << bit);
-                refused(&bytes, Refusal::SheetFields);
+    let fields = Refusal::SheetFields;
+    for edition in EDITIONS {
+        let bytes = bare(edition).laid_out();
+        for len in 0..bytes.len() {
+            refused(&bytes[..len], fields);
+        }
+        for more in [1, 3, 4, bytes.len(), SHEET_MOST, 70000] {
+            refused(&[&bytes[..], &vec![0; more]].concat(), fields);
+        }
+        // where the ten heads stand in a bare sheet; a tag or a length that is another's, by each bit
+        for place in [0, 13, 20, 55, 63, 66, 69, 72, 75, 84] {
+            for head in [place, place + 1, place + 2] {
+                for bit in 0..8 {
+                    let byte = bytes[start(edition) + head] ^ 1 << bit;
+                    refused(&with(&bare(edition), head, byte), fields);
+                }
             }
         }
     }
-    let (keys, hits) = (&bytes[66..69], &bytes[69..72]);
-    let swapped = [&bytes[..66], hits, keys, &bytes[72..]].concat();
-    refused(&swapped, Refusal::SheetFields);
-    let missing = [&bytes[..69], &bytes[72..]].concat();
-    refused(&missing, Refusal::SheetFields);
-    let doubled = [&bytes[..69], keys, &bytes[69..]].concat();
-    refused(&doubled, Refusal::SheetFields);
+}
+
+#[test]
+fn a_field_that_is_misplaced_is_refused() {
+    let fields = Refusal::SheetFields;
+    for edition in EDITIONS {
+        let bytes = bare(edition).laid_out();
+        let (before, rest) = bytes.split_at(start(edition) + 66);
+        let (keys, rest) = rest.split_at(3);
+        let (hits, after) = rest.split_at(3);
+        refused(&[before, hits, keys, after].concat(), fields);
+        refused(&[before, keys, after].concat(), fields);
+        refused(&[before, keys, keys, hits, after].concat(), fields);
+    }
 }
 
 #[test]
 fn a_list_of_a_length_that_no_sheet_has_is_refused() {
     let fields = Refusal::SheetFields;
-    // 65,541 is 5 modulo 2^16, and so are 32,768 notes 0 bytes
+    // 65,541 is 5 modulo 2^16, and so are the bytes of 65,536 notes 0
     for entries in [0, 4, 7, 65_541] {
         refused_with(fields, |s| s.scale = vec![0; entries]);
     }
-    refused_with(fields, |s| s.lead = vec![NOTE; 57]);
-    refused_with(fields, |s| s.lead = vec![NOTE; 32_768]);
+    refused_with(fields, |s| s.lead = vec![lead(s.edition); 57]);
+    refused_with(fields, |s| s.lead = vec![lead(s.edition); 65_536]);
     refused_with(fields, |s| s.keys = vec![NOTE; 129]);
     refused_with(fields, |s| s.hits = vec![HIT; 99]);
     refused_with(fields, |s| s.bass = vec![NOTE; 105]);
@@ -219,18 +259,23 @@ fn a_value_out_of_range_is_refused() {
     let values = Refusal::SheetValues;
     for odd in [f32::NAN, f32::INFINITY, f32::NEG_INFINITY] {
         refused_with(values, |s| s.tempo = odd);
-        refused_with(values, |s| s.lead = vec![Note { time: odd, ..NOTE }]);
-        let velocity = odd;
+        let (time, velocity, duration) = (odd, odd, odd);
+        refused_with(values, |s| {
+            let note = lead(s.edition);
+            s.lead = vec![Note { time, ..note }];
+        });
         refused_with(values, |s| s.keys = vec![Note { velocity, ..NOTE }]);
-        let duration = odd;
         refused_with(values, |s| s.bass = vec![NOTE, Note { duration, ..NOTE }]);
-        refused_with(values, |s| s.hits = vec![Hit { time: odd, ..HIT }]);
+        refused_with(values, |s| s.hits = vec![Hit { time, ..HIT }]);
         refused_with(values, |s| s.hits = vec![HIT, Hit { gain: odd, ..HIT }]);
     }
     refused_with(values, |s| s.chords[7][3] = 128);
     refused_with(values, |s| s.scale[4] = 12);
     refused_with(values, |s| s.scale.push(12));
-    refused_with(values, |s| s.lead = vec![Note { bar: 8, ..NOTE }]);
+    refused_with(values, |s| {
+        let note = lead(s.edition);
+        s.lead = vec![Note { bar: 8, ..note }];
+    });
     refused_with(values, |s| s.bass = vec![Note { midi: 128, ..NOTE }]);
     refused_with(values, |s| s.hits = vec![Hit { bar: 8, ..HIT }]);
 }
@@ -238,11 +283,6 @@ fn a_value_out_of_range_is_refused() {
 #[test]
 fn a_code_that_the_types_have_not_is_refused() {
     let values = Refusal::SheetValues;
-    let hit = Sheet {
-        hits: vec![HIT],
-        ..bare()
-    };
-    refused(&with(&hit, 73, 4), values);
     // of style, voice, endings, dip and a bar's plays
     let codes = [
         (3, 2),
@@ -253,8 +293,15 @@ fn a_code_that_the_types_have_not_is_refused() {
         (87, 16),
         (118, 255),
     ];
-    for (place, code) in codes {
-        refused(&with(&bare(), place, code), values);
+    for edition in EDITIONS {
+        let hit = Sheet {
+            hits: vec![HIT],
+            ..bare(edition)
+        };
+        refused(&with(&hit, 73, 4), values);
+        for (place, code) in codes {
+            refused(&with(&bare(edition), place, code), values);
+        }
     }
 }
 
@@ -292,12 +339,14 @@ fn bars_that_the_form_does_not_make_are_refused() {
 
 #[test]
 fn a_fault_in_the_fields_comes_before_a_value_and_that_before_a_short_buffer() {
-    // the first value is bad and the last byte is cut off, or one follows it
-    let mut bytes = with(&bare(), 3, 2);
-    refused(&bytes, Refusal::SheetValues);
-    refused(&bytes[..118], Refusal::SheetFields);
-    bytes.push(0);
-    refused(&bytes, Refusal::SheetFields);
+    for edition in EDITIONS {
+        // the first value is bad and the last byte is cut off, or one follows it
+        let mut bytes = with(&bare(edition), 3, 2);
+        refused(&bytes, Refusal::SheetValues);
+        refused(&bytes[..bytes.len() - 1], Refusal::SheetFields);
+        bytes.push(0);
+        refused(&bytes, Refusal::SheetFields);
+    }
 }
 
 #[test]
@@ -306,10 +355,12 @@ fn the_c_function_has_the_numbers_of_the_documents() {
     let mut answer = |sheet: &[u8], len: usize| unsafe {
         raw::seqochanu_reread(sheet.as_ptr(), sheet.len(), buf.as_mut_ptr(), len)
     };
-    let bytes = bare().laid_out();
     assert_eq!(answer(&[], 0), -7);
-    assert_eq!(answer(&bytes[..118], 118), -7);
-    assert_eq!(answer(&with(&bare(), 3, 2), 119), -8);
-    assert_eq!(answer(&bytes, 118), -2);
-    assert_eq!(answer(&bytes, 119), 119);
+    for (edition, len) in [(Edition::One, 119), (Edition::Two, 123)] {
+        let bytes = bare(edition).laid_out();
+        assert_eq!(answer(&bytes[..len - 1], len), -7);
+        assert_eq!(answer(&with(&bare(edition), 3, 2), len), -8);
+        assert_eq!(answer(&bytes, len - 1), -2);
+        assert_eq!(answer(&bytes, len), len as i64);
+    }
 }

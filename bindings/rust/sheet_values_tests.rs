@@ -5,27 +5,39 @@
 
 use super::*;
 
-// Where codes stand in what `literal` gives.
-const STYLE: usize = 3;
-const VOICE: usize = 12;
-const KIND: usize = 73;
-const PLAYS: usize = 97;
+// Where codes stand in what `literal` gives; a note's is its role.
+const STYLE: usize = 7;
+const VOICE: usize = 16;
+const LEAD: usize = 84;
+const KEYS: usize = 102;
+const KIND: usize = 107;
+const BASS: usize = 133;
+const PLAYS: usize = 146;
 
-/// The bytes of a sheet with one hit, with this field 0x09 and as many bars as it makes, in which all layers play.
-/// None of the code that is tested lays them out.
+/// A note of this role: bar 1, 1.0 s, C4, velocity 0.5, for 2.0 s.
+fn note(role: u8) -> [u8; 15] {
+    [1, 0x3f, 0x80, 0, 0, 60, 0x3f, 0, 0, 0, 0x40, 0, 0, 0, role]
+}
+
+/// The bytes of a sheet with one note in each lane and one hit, with this field 0x09 and as many bars as it makes, in
+/// which all layers play. None of the code that is tested lays them out.
 fn literal(form: [u8; 6]) -> Vec<u8> {
     let [_, intro, phrases, _, outro, _] = form;
     let bars = intro + 8 * phrases + outro;
     [
-        &[1, 0, 10, 0, 0, 0, 0, 0, 0, 0, 0, 0, 0][..],
+        &[0, 0, 1, 2][..],
+        &[1, 0, 10, 0, 0, 0, 0, 0, 0, 0, 0, 0, 0],
         &[2, 0, 4, 0x42, 0x98, 0, 0],
         &[3, 0, 32],
         &[60; 32],
         &[4, 0, 5, 0, 2, 4, 7, 9],
-        &[5, 0, 0],
-        &[6, 0, 0],
+        &[5, 0, 15],
+        &note(0),
+        &[6, 0, 15],
+        &note(6),
         &[7, 0, 10, 0, 0, 0, 0, 0, 0, 0x3f, 0x80, 0, 0],
-        &[8, 0, 0],
+        &[8, 0, 15],
+        &note(6),
         &[9, 0, 6],
         &form,
         &[10, 0, bars],
@@ -77,6 +89,57 @@ fn kinds_of_drum_have_their_codes() {
         let kinds: Vec<Drum> = hits.iter().map(|hit| hit.kind).collect();
         assert_eq!(kinds, [kind]);
     }
+}
+
+#[test]
+fn roles_have_their_codes() {
+    let roles = [
+        (0, Role::Quote),
+        (1, Role::Close),
+        (2, Role::Peak),
+        (3, Role::Resolve),
+        (4, Role::ChordTone),
+        (5, Role::Passing),
+    ];
+    for (code, role) in roles {
+        let sheet = coded(LEAD, code);
+        let lanes = [sheet.lead, sheet.keys, sheet.bass].map(|lane| lane[0].role);
+        assert_eq!(lanes, [role, Role::Backing, Role::Backing]);
+    }
+}
+
+#[test]
+fn a_role_that_its_lane_has_not_is_refused() {
+    let bytes = literal([0, 0, 4, 0, 0, 0]);
+    for (place, codes) in [
+        (LEAD, &[6, 7, 8, 255][..]),
+        (KEYS, &[0, 5, 7, 255]),
+        (BASS, &[0, 5, 7, 255]),
+    ] {
+        for &code in codes {
+            let mut bytes = bytes.clone();
+            bytes[place] = code;
+            refused(&bytes, Refusal::SheetValues);
+            // and only then: with the last byte cut off the fields are at fault
+            refused(&bytes[..bytes.len() - 1], Refusal::SheetFields);
+        }
+    }
+}
+
+#[test]
+fn a_note_has_its_numbers() {
+    let note = Note {
+        bar: 1,
+        time: 1.0,
+        midi: 60,
+        velocity: 0.5,
+        duration: 2.0,
+        role: Role::Backing,
+    };
+    let sheet = coded(LEAD, 3);
+    let role = Role::Resolve;
+    assert_eq!(sheet.lead, [Note { role, ..note }]);
+    assert_eq!((sheet.keys, sheet.bass), (vec![note], vec![note]));
 }
 
 #[test]
@@ -143,6 +206,7 @@ fn example() -> Sheet {
 #[test]
 fn the_example_has_its_notes_and_hits() {
     let sheet = example();
+    assert_eq!(sheet.edition, Edition::Two);
     assert_eq!(sheet.voice, Voice::EpVel);
     assert_eq!(sheet.tempo, 76.0);
     assert_eq!(sheet.chords[1], [50, 53, 57, 60]);
@@ -155,8 +219,12 @@ fn the_example_has_its_notes_and_hits() {
         midi: 79,
         velocity: f32::from_bits(0x3e7d7a94),
         duration: 2.2,
+        role: Role::Passing,
     };
     assert_eq!(sheet.lead[1], lead);
+    let roles: Vec<Role> = sheet.lead.iter().map(|note| note.role).collect();
+    let expected = [Role::Passing, Role::Passing, Role::Quote, Role::Peak];
+    assert_eq!(roles, expected);
     let snare = Hit {
         bar: 0,
         kind: Drum::Snare,
@@ -193,7 +261,7 @@ fn the_example_has_its_form() {
 
 #[test]
 fn a_sheet_made_by_hand_is_laid_out_and_read() {
-    let mut sheets = vec![bare(), full()];
+    let mut sheets = EDITIONS.map(|e| [bare(e), full(e)]).concat();
     for phrases in 4..=6 {
         for outro in endings() {
             for intro in endings() {
@@ -211,13 +279,19 @@ fn a_sheet_made_by_hand_is_laid_out_and_read() {
                 style,
                 voice,
                 hits,
-                ..bare()
+                ..bare(Edition::Two)
             });
         }
     }
     // what no song has: bars that fall along a lane, and a note twice
-    let lead = vec![NOTE, Note { bar: 0, ..NOTE }, NOTE, NOTE];
-    sheets.push(Sheet { lead, ..bare() });
+    for edition in EDITIONS {
+        let note = lead(edition);
+        let lead = vec![note, Note { bar: 0, ..note }, note, note];
+        sheets.push(Sheet {
+            lead,
+            ..bare(edition)
+        });
+    }
     for sheet in sheets {
         let bytes = sheet.to_bytes().unwrap();
         let read = Sheet::parse(&bytes).unwrap();
@@ -225,18 +299,27 @@ fn a_sheet_made_by_hand_is_laid_out_and_read() {
         // equal to the last bit, for which `==` does not look
         assert_eq!(read.laid_out(), bytes);
     }
-    assert_eq!(bare().to_bytes().unwrap().len(), 119);
-    assert_eq!(full().to_bytes().unwrap().len(), SHEET_MOST);
+}
+
+#[test]
+fn the_shortest_and_the_longest_sheets_have_their_lengths() {
+    let len = |sheet: Sheet| sheet.to_bytes().unwrap().len();
+    assert_eq!(EDITIONS.map(bare).map(len), [119, 123]);
+    assert_eq!(
+        EDITIONS.map(full).map(len),
+        EDITIONS.map(Edition::sheet_most)
+    );
 }
 
 #[test]
 fn a_negative_zero_stays_one() {
-    let sheet = Sheet::parse(&bare().to_bytes().unwrap()).unwrap();
+    let bare = bare(Edition::Two);
+    let sheet = Sheet::parse(&bare.to_bytes().unwrap()).unwrap();
     assert_eq!(sheet.tempo.to_bits(), 0x8000_0000);
     let zero = Sheet {
         tempo: 0.0,
-        ..bare()
+        ..bare.clone()
     };
-    assert_eq!(zero, bare());
-    assert_ne!(zero.to_bytes(), bare().to_bytes());
+    assert_eq!(zero, bare);
+    assert_ne!(zero.to_bytes(), bare.to_bytes());
 }
