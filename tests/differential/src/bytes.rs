@@ -1,36 +1,41 @@
-//! Sheets and bar pages in bytes, laid out from the Rust's own songs and forms by document 01, and a page's hits by
-//! document 02, which moves the early ones.
+//! Sheets and bar pages in bytes, laid out from the Rust's own songs and forms by document 01. The two editions, and
+//! the hits of a page, of which the early ones are moved, are document 02's.
 
 use crate::compose::reach::form::{dips, intro_code, outro_code, phrases, plays_at};
 use crate::compose::reach::{Hit, Note, STYLES, Take, kind_code, take, voice_code};
 use crate::compose::{Form, arrange};
 use crate::early::{drums_at, is_early, shows};
+use crate::edition::{BACKING, Edition, HIT_WIDTH, PAGE_MOST};
 
-/// The most bytes of a sheet, by document 01, and of a page, by what is proved.
-pub const SHEET_MOST: usize = 5164;
-pub const PAGE_MOST: usize = 663;
-
-/// A lane's field, the bit of the layer that it follows on a page, and the width of its events.
+/// A lane's field, and the bit of the layer that it follows on a page.
 struct Lane {
     tag: u8,
     layer: u64,
-    width: usize,
 }
 
-const fn lane(tag: u8, layer: u64, width: usize) -> Lane {
-    Lane { tag, layer, width }
+const fn lane(tag: u8, layer: u64) -> Lane {
+    Lane { tag, layer }
 }
+
+/// The edition that pages are in.
+const PAGES: Edition = Edition::Two;
 
 const PAD: u64 = 1;
-const LEAD: Lane = lane(0x05, 2, 14);
-const KEYS: Lane = lane(0x06, 2, 14);
-const HITS: Lane = lane(0x07, 4, 10);
-const BASS: Lane = lane(0x08, 8, 14);
+const LEAD: Lane = lane(0x05, 2);
+const KEYS: Lane = lane(0x06, 2);
+const HITS: Lane = lane(0x07, 4);
+const BASS: Lane = lane(0x08, 8);
 
 /// A field: a one-byte tag, a two-byte length, a body.
 pub fn field(tag: u8, body: &[u8]) -> Vec<u8> {
     let length = u16::try_from(body.len()).expect("two bytes hold a body's length");
     [&[tag], &length.to_be_bytes()[..], body].concat()
+}
+
+/// What leads a sheet or page of this edition.
+pub fn front(edition: Edition) -> Vec<u8> {
+    let name = edition.name();
+    name.map_or(Vec::new(), |number| field(0x00, &[number]))
 }
 
 fn byte(n: usize) -> u8 {
@@ -41,9 +46,13 @@ fn float(x: f32) -> [u8; 4] {
     x.to_bits().to_be_bytes()
 }
 
-fn note(n: &Note, bar: u8) -> Vec<u8> {
+fn note(edition: Edition, (n, role): &(Note, u8), bar: u8) -> Vec<u8> {
     let (at, vel, dur) = (float(n.at), float(n.vel), float(n.dur));
-    [&[bar], &at[..], &[n.midi], &vel, &dur].concat()
+    let role = match edition {
+        Edition::One => &[][..],
+        Edition::Two => &[*role],
+    };
+    [&[bar], &at[..], &[n.midi], &vel, &dur, role].concat()
 }
 
 fn hit(h: &Hit, bar: u8) -> Vec<u8> {
@@ -51,39 +60,45 @@ fn hit(h: &Hit, bar: u8) -> Vec<u8> {
     [&[bar, kind_code(h) as u8], &at[..], &gain].concat()
 }
 
-/// Those events of a lane that are `shown`, by the event and the loop bar that it was drawn for.
+/// Those events that are `shown`, by the event and the loop bar that it was drawn for, each of this width.
 fn laid<E>(
-    lane: &Lane,
+    width: usize,
     (events, bars): (&[E], &[u64]),
     bytes: impl Fn(&E, u8) -> Vec<u8>,
     shown: impl Fn(&E, u64) -> bool,
 ) -> Vec<u8> {
-    let body: Vec<u8> = (events.iter().zip(bars))
+    (events.iter().zip(bars))
         .filter(|(event, bar)| shown(event, **bar))
-        .flat_map(|(event, bar)| bytes(event, *bar as u8))
-        .collect();
-    assert_eq!(body.len() % lane.width, 0, "each event has its width");
-    body
+        .flat_map(|(event, bar)| {
+            let bytes = bytes(event, *bar as u8);
+            assert_eq!(bytes.len(), width, "each event has its width");
+            bytes
+        })
+        .collect()
 }
 
 /// Those hits that are `shown`.
 fn laid_hits(take: &Take, shown: impl Fn(&Hit, u64) -> bool) -> Vec<u8> {
     let hits = (&take.score.drums[..], &take.bars.hits[..]);
-    laid(&HITS, hits, hit, shown)
+    laid(HIT_WIDTH, hits, hit, shown)
 }
 
 /// The lanes' fields, 0x05 to 0x08: the notes that are `shown` by layer and bar, and these `hits`.
-fn lanes(take: &Take, shown: impl Fn(u64, u64) -> bool, hits: &[u8]) -> Vec<u8> {
+fn lanes(edition: Edition, take: &Take, shown: impl Fn(u64, u64) -> bool, hits: &[u8]) -> Vec<u8> {
     let (score, bars) = (&take.score, &take.bars);
-    let notes = |lane: Lane, notes: &[Note], bars: &[u64]| {
-        let body = laid(&lane, (notes, bars), note, |_, bar| shown(lane.layer, bar));
+    let notes = |lane: Lane, notes: &[Note], bars: &[u64], roles: &[u8]| {
+        let notes: Vec<(Note, u8)> = notes.iter().copied().zip(roles.iter().copied()).collect();
+        let bytes = |n: &(Note, u8), bar: u8| note(edition, n, bar);
+        let here = |_: &(Note, u8), bar: u64| shown(lane.layer, bar);
+        let body = laid(edition.note_width(), (&notes, bars), bytes, here);
         field(lane.tag, &body)
     };
+    let backing = |notes: &[Note]| vec![BACKING; notes.len()];
     [
-        notes(LEAD, &score.sparkle, &bars.lead),
-        notes(KEYS, &score.keys, &bars.keys),
+        notes(LEAD, &score.sparkle, &bars.lead, &take.roles),
+        notes(KEYS, &score.keys, &bars.keys, &backing(&score.keys)),
         field(HITS.tag, hits),
-        notes(BASS, &score.bass, &bars.bass),
+        notes(BASS, &score.bass, &bars.bass, &backing(&score.bass)),
     ]
     .concat()
 }
@@ -120,11 +135,13 @@ fn tail(form: &Form) -> Vec<u8> {
     [field(0x09, &ends), field(0x0a, &plays)].concat()
 }
 
-pub fn sheet(style: u8, seed: u64, take: &Take, form: &Form) -> Vec<u8> {
+pub fn sheet(edition: Edition, style: u8, seed: u64, take: &Take, form: &Form) -> Vec<u8> {
     let hits = laid_hits(take, |_, _| true);
-    let lanes = lanes(take, |_, _| true, &hits);
-    let bytes = [head(style, seed, take), lanes, tail(form)].concat();
-    assert!(bytes.len() <= SHEET_MOST, "a sheet of {}", bytes.len());
+    let lanes = lanes(edition, take, |_, _| true, &hits);
+    let parts = [front(edition), head(style, seed, take), lanes, tail(form)];
+    let bytes = parts.concat();
+    let (n, most) = (bytes.len(), edition.sheet_most());
+    assert!(n <= most, "a sheet of {n} bytes in {edition:?}");
     bytes
 }
 
@@ -150,14 +167,14 @@ pub fn page(take: &Take, form: &Form, bar: usize) -> Vec<u8> {
         _ => &take.score.bar_chords[shows as usize],
     };
     let here = |layer, of| plays & layer != 0 && of == shows;
-    let hits = page_hits(take, form, bar);
-    let bytes = [field(0x03, chord), lanes(take, here, &hits)].concat();
+    let lanes = lanes(PAGES, take, here, &page_hits(take, form, bar));
+    let bytes = [front(PAGES), field(0x03, chord), lanes].concat();
     assert!(bytes.len() <= PAGE_MOST, "a page of {}", bytes.len());
     bytes
 }
 
 /// The sheet of a seed's song.
-pub fn sheet_of(style: u8, seed: u64) -> Vec<u8> {
+pub fn sheet_of(edition: Edition, style: u8, seed: u64) -> Vec<u8> {
     let take = take(STYLES[usize::from(style)], seed);
-    sheet(style, seed, &take, &arrange(seed))
+    sheet(edition, style, seed, &take, &arrange(seed))
 }

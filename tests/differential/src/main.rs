@@ -22,6 +22,7 @@ mod bytes;
 mod calls;
 mod draws;
 mod early;
+mod edition;
 mod forms;
 mod halls;
 mod hits;
@@ -103,7 +104,7 @@ fn main() {
     program::paper::compare_edges(&mut edges, paper);
     program::hall::compare_edges(&mut edges, hall);
     let all = edges.join(compare_all(start, count));
-    let (values, sheet, page) = (all.compared, all.sheet, all.page);
+    let (values, sheet, page, roles) = (all.compared, all.sheet, all.page, all.roles);
     println!(
         "the longest sheet has {} bytes, that of {}",
         sheet.bytes, sheet.of
@@ -112,5 +113,6 @@ fn main() {
         "the longest page has {} bytes, that of {}",
         page.bytes, page.of
     );
+    println!("lead notes by their roles, from 0 on: {roles:?}");
     println!("{count} seeds from {start}: {values} values compared, no difference");
 }

@@ -1,10 +1,11 @@
 //! The sheets and bar pages: the answer, every byte written, and every byte that must stay.
 
-use crate::bytes::{PAGE_MOST, SHEET_MOST, page, sheet};
+use crate::bytes::{page, sheet};
 use crate::calls::{Asked, compare_call};
 use crate::compose::reach::{STYLES, Take, take};
 use crate::compose::{Form, arrange};
 use crate::dsp::reach::{next_u64, stream};
+use crate::edition::{Edition, PAGE_MOST, SHEET_MOST};
 use crate::tally::Tally;
 use crate::{ours, sample, songs};
 
@@ -49,7 +50,7 @@ impl Song {
     /// Its sheet, into a buffer whose length follows from the sheet's.
     fn compare_sheet(&self, tally: &mut Tally, len: impl Fn(usize) -> usize) {
         let Song { style, seed, .. } = *self;
-        let wanted = sheet(style, seed, &self.take, &self.form);
+        let wanted = sheet(Edition::Two, style, seed, &self.take, &self.form);
         let name = || format!("{seed:#x} in style {style}");
         tally.sheet.see(wanted.len(), name);
         sheet_call(tally, style, seed, Ok(&wanted), len(wanted.len()));
@@ -83,6 +84,7 @@ impl Song {
 pub fn compare_seed(tally: &mut Tally, seed: u64) {
     let drawn = next_u64(&mut stream(seed, 0));
     for song in Song::both(seed) {
+        tally.see_roles(&song.take.roles);
         song.compare_sheet(tally, |_| SHEET_MOST);
         song.compare_sheet(tally, |n| n);
         song.compare_sheet(tally, |n| n - 1);

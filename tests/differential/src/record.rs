@@ -1,12 +1,13 @@
 //! Writes a sample of the Rust's answers, which crate `replay` runs with no Rust at hand. A line is a
 //! letter and three words of 16 hexadecimal digits: what is asked, two arguments, the answer.
 
-use crate::bytes::{PAGE_MOST, SHEET_MOST, page, sheet};
+use crate::bytes::{front, page, sheet};
 use crate::compose::reach::form::plays_at;
 use crate::compose::reach::{STAGES, STYLES, Take, coin, kicks, pick, take};
 use crate::compose::{Form, arrange};
 use crate::draws::stream_with;
 use crate::dsp::reach::{next_u64, seed_of, stream};
+use crate::edition::{Edition, PAGE_MOST, SHEET_MOST};
 use crate::halls::{HALLS, LIST_MOST, list};
 use crate::reread::judge::judge;
 use crate::scores::unbeaten;
@@ -114,7 +115,7 @@ fn page_lines(lines: &mut Vec<Line>, seed: u64) {
     let form = arrange(seed);
     for (style, what) in (0..).zip(['M', 'N']) {
         let take = take(STYLES[usize::from(style)], seed);
-        let sheet = sheet(style, seed, &take, &form);
+        let sheet = sheet(Edition::Two, style, seed, &take, &form);
         lines.push((what, seed, 0, byte_fold(&sheet, SHEET_MOST)));
         for bar in chosen(&take, &form) {
             let page = page(&take, &form, bar);
@@ -135,20 +136,38 @@ fn hall_lines(lines: &mut Vec<Line>, hall: u64) {
     }
 }
 
-/// How a sheet is spoiled, in one word: its style, a byte put at a place, and how many bytes are kept.
-fn spoiled(style: u8, place: Option<(usize, u8)>, kept: usize) -> u64 {
+/// How many bytes are kept of a sheet that is not cut off.
+const WHOLE: usize = 65535;
+
+/// How a sheet is spoiled, in one word: its style and edition, a byte put at a place, and how many bytes are kept.
+fn spoiled(edition: Edition, style: u8, place: Option<(usize, u8)>, kept: usize) -> u64 {
+    let first = u64::from(edition == Edition::One);
     let (place, byte) = place.map_or((0, 0), |(place, byte)| (place as u64 + 1, byte));
-    u64::from(style) | u64::from(byte) << 8 | place << 16 | (65535 - kept.min(65535) as u64) << 32
+    let cut = (WHOLE - kept) as u64;
+    u64::from(style) | first << 1 | u64::from(byte) << 8 | place << 16 | cut << 32
+}
+
+/// The places at which a byte of a sheet is changed: those of every head, of the first two bytes and of the last of
+/// each body.
+fn places(sheet: &[u8]) -> BTreeSet<usize> {
+    let (mut places, mut at) = (BTreeSet::new(), 0);
+    while at < sheet.len() {
+        let size = usize::from(u16::from_be_bytes([sheet[at + 1], sheet[at + 2]]));
+        let end = at + 3 + size;
+        places.extend((at..end.min(at + 5)).chain([end - 1]));
+        at = end;
+    }
+    places
 }
 
 /// R: a fold of what is read of the sheet of the song seed a, spoiled as b tells, and written again, or document 02's
-/// refusal: the whole sheet; the sheet cut off; one byte of it changed, in every head and in the first two bytes and
-/// the last of each body; and a bad style in a sheet that is cut off.
-fn reread_lines(lines: &mut Vec<Line>, seed: u64) {
+/// refusal: the whole sheet; the sheet cut off; one byte of it changed, at each of the places; and a bad style in a
+/// sheet that is cut off.
+fn reread_lines(lines: &mut Vec<Line>, edition: Edition, seed: u64) {
     let form = arrange(seed);
     for style in 0..2 {
-        let sheet = sheet(style, seed, &take(STYLES[usize::from(style)], seed), &form);
-        let whole = 65535;
+        let take = take(STYLES[usize::from(style)], seed);
+        let sheet = sheet(edition, style, seed, &take, &form);
         let mut ask = |place: Option<(usize, u8)>, kept: usize| {
             let mut bytes = sheet.clone();
             if let Some((place, byte)) = place {
@@ -159,23 +178,19 @@ fn reread_lines(lines: &mut Vec<Line>, seed: u64) {
                 Ok(()) => byte_fold(&bytes, SHEET_MOST),
                 Err(number) => number as u64,
             };
-            lines.push(('R', seed, spoiled(style, place, kept), answer));
+            lines.push(('R', seed, spoiled(edition, style, place, kept), answer));
         };
-        ask(None, whole);
-        for kept in [0, 1, 12, sheet.len() - 1] {
+        ask(None, WHOLE);
+        for kept in [0, 1, 4, 12, sheet.len() - 1] {
             ask(None, kept);
         }
-        let mut at = 0;
-        while at < sheet.len() {
-            let size = usize::from(sheet[at + 1]) * 256 + usize::from(sheet[at + 2]);
-            for place in [at, at + 1, at + 2, at + 3, at + 4, at + 2 + size] {
-                for byte in [0, 7, 0x7f, 0xff] {
-                    ask(Some((place, byte)), whole);
-                }
+        for place in places(&sheet) {
+            for byte in [0, 1, 6, 7, 0x7f, 0xff] {
+                ask(Some((place, byte)), WHOLE);
             }
-            at += 3 + size;
         }
-        ask(Some((3, 2)), sheet.len() - 1);
+        let style_at = front(edition).len() + 3;
+        ask(Some((style_at, 2)), sheet.len() - 1);
     }
 }
 
@@ -212,7 +227,8 @@ pub fn write(folder: &str) {
     write_lines(folder, "halls", &halls);
     let mut sheets = Vec::new();
     for seed in [0, 389_849, u64::MAX] {
-        reread_lines(&mut sheets, seed);
+        reread_lines(&mut sheets, Edition::Two, seed);
     }
+    reread_lines(&mut sheets, Edition::One, 0);
     write_lines(folder, "sheets", &sheets);
 }

@@ -7,8 +7,11 @@ mod faults;
 pub mod judge;
 mod sheets;
 
-use crate::bytes::{SHEET_MOST, sheet_of};
+use crate::bytes::sheet;
 use crate::calls::compare_call;
+use crate::compose::arrange;
+use crate::compose::reach::{STYLES, take};
+use crate::edition::{EDITIONS, Edition, SHEET_MOST};
 use crate::tally::Tally;
 use crate::{ours, songs};
 use faults::{Fault, faulty, sheets_by_two, structure_faults, value_faults};
@@ -93,17 +96,20 @@ fn flipped(draws: &mut Draws, sheet: &[u8]) -> Vec<u8> {
     bytes
 }
 
-/// Of one seed the sheets of its songs, and some of them with a byte changed.
+/// Of one seed the sheets of its songs in both editions, and some of them with a byte changed.
 pub fn compare_seed(tally: &mut Tally, seed: u64) {
     let draws = &mut Draws::of(seed);
     for style in [0, 1] {
-        let sheet = sheet_of(style, seed);
-        let what = || format!("the sheet of {seed:#x} in style {style}");
-        compare_sound(tally, what, &sheet);
-        for _ in 0..3 {
-            let bytes = flipped(draws, &sheet);
-            let what = || format!("{}, now {bytes:x?}", what());
-            compare_judged(tally, what, &bytes, [SHEET_MOST]);
+        let (take, form) = (take(STYLES[usize::from(style)], seed), arrange(seed));
+        for edition in EDITIONS {
+            let sheet = sheet(edition, style, seed, &take, &form);
+            let what = || format!("the sheet of {seed:#x} in style {style}, {edition:?}");
+            compare_sound(tally, what, &sheet);
+            for _ in 0..3 {
+                let bytes = flipped(draws, &sheet);
+                let what = || format!("{}, now {bytes:x?}", what());
+                compare_judged(tally, what, &bytes, [SHEET_MOST]);
+            }
         }
     }
 }
@@ -124,18 +130,25 @@ fn compare_some(tally: &mut Tally, draws: &mut Draws, sheet: &Bodies) {
 
 /// Of one seed sheets that it makes: with lanes of any length, with full ones, with empty ones, and with a few events,
 /// which last one also gets faults.
-pub fn compare_made(tally: &mut Tally, seed: u64) {
+fn compare_made_in(tally: &mut Tally, edition: Edition, seed: u64) {
     let draws = &mut Draws::of(!seed);
     let few = [0; 4].map(|_| draws.below(4));
     let sheets = [draws.counts(), COUNTS_MOST, [0; 4], few].map(|counts| {
         let shape = draws.shape();
-        draws.sheet(counts, shape)
+        draws.sheet(edition, counts, shape)
     });
     for (i, sheet) in sheets.iter().enumerate() {
-        let what = || format!("sheet {i} made from {seed:#x}");
+        let what = || format!("sheet {i} of {edition:?} made from {seed:#x}");
         compare_sound(tally, what, &sheet.bytes());
     }
     compare_some(tally, draws, &sheets[3]);
+}
+
+/// Such sheets of one seed in both editions.
+pub fn compare_made(tally: &mut Tally, seed: u64) {
+    for edition in EDITIONS {
+        compare_made_in(tally, edition, seed);
+    }
 }
 
 /// Inputs at the limits, and the seeds of songs that are rare.

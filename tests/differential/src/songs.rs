@@ -18,9 +18,9 @@ pub const RARE: [u64; 6] = [
 ];
 
 /// How many things songs can show: 31 loops, 12 keys, 18 tempos, 4 grooves, 5 voices; in each style a
-/// statement that falls back, an empty first and last bar of the lead, and a tempo drawn at an exact
-/// half; in hiphop 98 hits and the six of early.rs, and in sleep no keys.
-const THINGS: usize = 86;
+/// statement that falls back, an empty first and last bar of the lead, a tempo drawn at an exact half, and
+/// the six roles of lead notes; in hiphop 98 hits and the six of early.rs, and in sleep no keys.
+const THINGS: usize = 98;
 
 /// What the song of this seed shows.
 fn shown(style: usize, seed: u64) -> Vec<String> {
@@ -48,6 +48,9 @@ fn shown(style: usize, seed: u64) -> Vec<String> {
     ];
     for (_, what) in rare.into_iter().filter(|(is, _)| *is) {
         all.push(format!("style {style} {what}"));
+    }
+    for role in &take.roles {
+        all.push(format!("style {style} has a lead note of role {role}"));
     }
     for what in early::firsts(&take, &arrange(seed)).into_keys() {
         all.push(format!("style {style} {what}"));

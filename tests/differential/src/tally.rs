@@ -1,5 +1,6 @@
 //! Counts compared values, and ends the run at the first difference.
 
+use crate::edition::BACKING;
 use std::fmt::Debug;
 
 /// What a run of draws gave, and the counter that its stream is left with.
@@ -28,9 +29,18 @@ pub struct Tally {
     pub compared: u64,
     pub sheet: Longest,
     pub page: Longest,
+    /// How many lead notes have each role.
+    pub roles: [u64; BACKING as usize],
 }
 
 impl Tally {
+    /// A song's lead notes more, by their roles.
+    pub fn see_roles(&mut self, roles: &[u8]) {
+        for &role in roles {
+            self.roles[usize::from(role)] += 1;
+        }
+    }
+
     /// One value more. Where the two differ, says the input and both values and ends with status 1.
     pub fn same<T: PartialEq + Debug>(
         &mut self,
@@ -74,6 +84,9 @@ impl Tally {
         self.compared += other.compared;
         self.sheet.see(other.sheet.bytes, || other.sheet.of);
         self.page.see(other.page.bytes, || other.page.of);
+        for (role, count) in self.roles.iter_mut().zip(other.roles) {
+            *role += count;
+        }
         self
     }
 

@@ -2,6 +2,7 @@
 
 use super::{Program, input_of};
 use crate::bytes::{field, sheet_of};
+use crate::edition::Edition;
 use crate::tally::Tally;
 
 /// How many seeds are tried: in style 0 by 8 bytes and by 9, and in style 1.
@@ -15,7 +16,7 @@ fn wanted(input: &[u8]) -> Vec<u8> {
     };
     match (seed.try_into(), style) {
         (Err(_), _) => field(0x7f, &[5]),
-        (Ok(seed), 0 | 1) => sheet_of(style, u64::from_be_bytes(seed)),
+        (Ok(seed), 0 | 1) => sheet_of(Edition::Two, style, u64::from_be_bytes(seed)),
         _ => field(0x7f, &[1]),
     }
 }

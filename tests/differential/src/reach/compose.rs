@@ -5,8 +5,11 @@ use super::{
 };
 pub(crate) use super::{Hit, Note, form::reach as form, kicks};
 use crate::dsp::NoiseStream;
-use crate::dsp::reach::counter_of;
+use crate::dsp::reach::{counter_of, seed_of, stream};
 use crate::style::{HIPHOP, SLEEP, Style};
+use roles::{Melody, role_code};
+
+mod roles;
 
 /// The stages in the order of their numbers.
 pub(crate) const STAGES: [Stage; 8] = [
@@ -86,19 +89,23 @@ pub(crate) struct Take {
     /// The counters that the stages after the form leave their streams with.
     pub(crate) counters: [u64; 7],
     pub(crate) bars: EventBars,
+    /// The lead notes' roles by their numbers on the sheet.
+    pub(crate) roles: Vec<u8>,
 }
 
 pub(crate) fn take(style: &'static Style, seed: u64) -> Take {
     let (score, harmony) = super::composed(style, seed);
+    let (lead, roles) = lead_bars_and_roles(&score, &harmony, seed);
     Take {
         roots: harmony.bars.map(|c| c.root_pc),
         counters: counters(&score, &harmony, seed),
         bars: EventBars {
-            lead: lead_bars(&score, &harmony, seed),
+            lead,
             keys: keys_bars(&score, seed),
             hits: hit_bars(&score),
             bass: bass_bars(seed),
         },
+        roles,
         scale: harmony.melody_pcs,
         score,
     }
@@ -123,14 +130,26 @@ fn counters(score: &Score, harmony: &Harmony, seed: u64) -> [u64; 7] {
     streams.each_ref().map(counter_of)
 }
 
-/// The bars of the melody's notes, which are played in their order.
-fn lead_bars(score: &Score, harmony: &Harmony, seed: u64) -> Vec<u64> {
+/// The bars and the roles of the melody's notes, which are played in their order.
+fn lead_bars_and_roles(score: &Score, harmony: &Harmony, seed: u64) -> (Vec<u64>, Vec<u8>) {
     let style = &score.style.writing.lead;
     let rng = &mut Stage::Lead.stream(seed);
     let statement = super::statement(rng, style);
     let answer = super::answer(rng, &statement);
-    let line = super::melody(rng, &[statement, answer].concat(), harmony, style);
-    line.iter().map(|n| n.bar as u64).collect()
+    let again = &mut stream(seed_of(rng), counter_of(rng));
+    let line = &super::melody(rng, &[statement, answer].concat(), harmony, style)[..];
+    let sung = line.iter().map(|n| n.note);
+    let played = score.sparkle.iter().map(|n| n.midi);
+    assert!(sung.eq(played), "the song plays this melody");
+    let melody = Melody {
+        harmony,
+        style,
+        line,
+    };
+    let roles = melody.roles(again).into_iter().map(role_code).collect();
+    let drawn = (counter_of(rng), counter_of(again));
+    assert_eq!(drawn.0, drawn.1, "the roles take the melody's draws");
+    (line.iter().map(|n| n.bar as u64).collect(), roles)
 }
 
 /// The keys over chords of thirds and sevenths alone, each bar's in an octave of its own: no draw

@@ -7,7 +7,8 @@ use super::sheets::{Bodies, COUNTS_MOST, Draws, Shape};
 use super::{
     by_hand, compare_fault, compare_faults, compare_judged, compare_refused, compare_sound,
 };
-use crate::bytes::{SHEET_MOST, field, sheet_of};
+use crate::bytes::{field, sheet_of};
+use crate::edition::{BACKING, EDITIONS, Edition, SHEET_MOST};
 use crate::tally::Tally;
 
 /// A song with both endings as long as they can be, and one that rings out.
@@ -25,21 +26,22 @@ const RINGING: Shape = Shape {
 };
 
 /// The sheet by hand.
-fn short() -> Bodies {
-    Bodies::of(&by_hand::bytes())
+fn short(edition: Edition) -> Bodies {
+    Bodies::of(&by_hand::bytes(edition))
 }
 
 /// The sheet with as many events and bars as one can have, and a scale of six.
-fn longest() -> Bodies {
-    let mut sheet = Draws::of(1).sheet(COUNTS_MOST, LONG);
+fn longest(edition: Edition) -> Bodies {
+    let mut sheet = Draws::of(1).sheet(edition, COUNTS_MOST, LONG);
     sheet.set(0x04, vec![11, 0, 2, 5, 7, 9]);
-    assert_eq!(sheet.bytes().len(), SHEET_MOST, "no sheet is longer");
+    let (len, most) = (sheet.bytes().len(), edition.sheet_most());
+    assert_eq!(len, most, "no sheet of {edition:?} is longer");
     sheet
 }
 
 /// The sheet by hand with another song in it.
-fn reshaped(shape: Shape, bars: usize) -> Bodies {
-    let mut sheet = short();
+fn reshaped(edition: Edition, shape: Shape, bars: usize) -> Bodies {
+    let mut sheet = short(edition);
     sheet.set(0x09, shape.body());
     sheet.set(0x0a, vec![15; bars]);
     sheet
@@ -47,11 +49,11 @@ fn reshaped(shape: Shape, bars: usize) -> Bodies {
 
 /// A shape, with plays as long as it tells and of each length that some song has. Whether a song can have the shape
 /// says the list of all.
-fn compare_shape(tally: &mut Tally, shape: Shape) {
+fn compare_shape(tally: &mut Tally, edition: Edition, shape: Shape) {
     let (lengths, is_one) = (Shape::lengths(), Shape::all().contains(&shape));
     for bars in lengths.union(&[shape.bars()].into()).copied() {
-        let what = || format!("{shape:?} and {bars} bars");
-        let bytes = reshaped(shape, bars).bytes();
+        let what = || format!("{shape:?} and {bars} bars in {edition:?}");
+        let bytes = reshaped(edition, shape, bars).bytes();
         if !lengths.contains(&bars) {
             compare_refused(tally, what, &bytes, FIELDS);
         } else if is_one && bars == shape.bars() {
@@ -63,25 +65,25 @@ fn compare_shape(tally: &mut Tally, shape: Shape) {
 }
 
 /// Each code of an ending, also those that are none, with numbers of bars that fit it or don't.
-fn compare_endings(tally: &mut Tally) {
+fn compare_endings(tally: &mut Tally, edition: Edition) {
     let codes = (0..=7).chain([16, 128, 129, 132, 255]);
     let bars: Vec<u8> = (0..=17).chain([32, 128, 132, 255]).collect();
     for ending in codes.flat_map(|code| bars.iter().map(move |&bars| (code, bars))) {
         for phrases in 2..=8 {
             let other = Shape { phrases, ..RINGING };
             let (intro, outro) = (ending, ending);
-            compare_shape(tally, Shape { intro, ..other });
-            compare_shape(tally, Shape { outro, ..other });
+            compare_shape(tally, edition, Shape { intro, ..other });
+            compare_shape(tally, edition, Shape { outro, ..other });
         }
     }
 }
 
 /// Plays of each length that no song has.
-fn compare_plays(tally: &mut Tally) {
+fn compare_plays(tally: &mut Tally, edition: Edition) {
     let lengths = Shape::lengths();
     for bars in (0..=320).filter(|bars| !lengths.contains(bars)) {
-        let what = || format!("{RINGING:?} and {bars} bars");
-        let bytes = reshaped(RINGING, bars).bytes();
+        let what = || format!("{RINGING:?} and {bars} bars in {edition:?}");
+        let bytes = reshaped(edition, RINGING, bars).bytes();
         compare_refused(tally, what, &bytes, FIELDS);
     }
 }
@@ -155,13 +157,14 @@ fn compare_floats(tally: &mut Tally, sheet: &Bodies) {
 }
 
 /// Each number of events that a lane can have, and more than it can.
-fn compare_counts(tally: &mut Tally) {
+fn compare_counts(tally: &mut Tally, edition: Edition) {
     for (i, most) in COUNTS_MOST.into_iter().enumerate() {
         for count in 0..=2 * most {
             let mut counts = [1; 4];
             counts[i] = count;
-            let bytes = Draws::of(count as u64).sheet(counts, RINGING).bytes();
-            let what = || format!("a sheet with {counts:?} events");
+            let draws = &mut Draws::of(count as u64);
+            let bytes = draws.sheet(edition, counts, RINGING).bytes();
+            let what = || format!("a sheet of {edition:?} with {counts:?} events");
             match count <= most {
                 true => compare_sound(tally, what, &bytes),
                 false => compare_refused(tally, what, &bytes, FIELDS),
@@ -199,12 +202,33 @@ fn compare_buffers(tally: &mut Tally, sheet: &[u8]) {
     compare_judged(tally, || format!("{sheet:x?}"), sheet, lens);
 }
 
-/// All of these, over sheets of few events, the longest one and those of a seed.
-pub fn compare_all(tally: &mut Tally) {
-    by_hand::assert_judged();
-    let (short, longest) = (short(), longest());
-    let empty = Draws::of(2).sheet([0; 4], RINGING);
-    let few = Draws::of(3).sheet([2, 3, 4, 2], LONG);
+/// Fields that are whole in both editions: 15 notes of 14 bytes, or 14 of 15, with one number for every byte. What
+/// leads them decides, and in edition 2 the number is each note's role.
+fn compare_both(tally: &mut Tally) {
+    let mut sheet = Draws::of(2).sheet(Edition::One, [0; 4], RINGING);
+    let others = BACKING..BACKING + 1;
+    for (tag, roles) in [(0x05, 0..BACKING), (0x06, others.clone()), (0x08, others)] {
+        for byte in 0..8 {
+            sheet.set(tag, vec![byte; 14 * 15]);
+            for edition in EDITIONS {
+                sheet.edition = edition;
+                let bytes = sheet.bytes();
+                let what = || format!("{bytes:x?}");
+                match edition == Edition::One || roles.contains(&byte) {
+                    true => compare_sound(tally, what, &bytes),
+                    false => compare_refused(tally, what, &bytes, VALUES),
+                }
+            }
+        }
+        sheet.set(tag, vec![]);
+    }
+}
+
+/// All of these in an edition, over sheets of few events, the longest one and those of a seed.
+fn compare_edition(tally: &mut Tally, edition: Edition) {
+    let (short, longest) = (short(edition), longest(edition));
+    let empty = Draws::of(2).sheet(edition, [0; 4], RINGING);
+    let few = Draws::of(3).sheet(edition, [2, 3, 4, 2], LONG);
     for sheet in [&short, &empty, &few, &longest] {
         let bytes = sheet.bytes();
         compare_sound(tally, || format!("{bytes:x?}"), &bytes);
@@ -217,15 +241,24 @@ pub fn compare_all(tally: &mut Tally) {
         compare_bytes(tally, sheet);
     }
     for style in [0, 1] {
-        compare_cut(tally, &sheet_of(style, 1));
+        compare_cut(tally, &sheet_of(edition, style, 1));
     }
     compare_pairs(tally, &short);
     compare_cut_bad(tally, &short);
     compare_floats(tally, &short);
-    compare_counts(tally);
+    compare_counts(tally, edition);
     for shape in Shape::all() {
-        compare_shape(tally, shape);
+        compare_shape(tally, edition, shape);
     }
-    compare_endings(tally);
-    compare_plays(tally);
+    compare_endings(tally, edition);
+    compare_plays(tally, edition);
+}
+
+/// All of these in both editions, once the driver's own reader has said what it must.
+pub fn compare_all(tally: &mut Tally) {
+    by_hand::assert_judged();
+    for edition in EDITIONS {
+        compare_edition(tally, edition);
+    }
+    compare_both(tally);
 }

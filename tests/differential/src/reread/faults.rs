@@ -3,7 +3,8 @@
 
 use super::judge::{FIELDS, VALUES};
 use super::sheets::{Bodies, EVENT_FIELDS, EventField, Shape};
-use crate::bytes::field;
+use crate::bytes::{field, front};
+use crate::edition::{BACKING, Edition};
 use std::collections::BTreeSet;
 
 /// Bits of no number: both infinities, then NaNs of both signs, quiet and signalling ones.
@@ -34,6 +35,8 @@ enum What {
     Value(usize, Vec<u8>),
     /// As many plays as another song has.
     OtherSong(usize),
+    /// Another number in the field that names the edition.
+    Name(u8),
     /// Another tag.
     Tag(u8),
     /// A length before the body that is so much more than its own, modulo 2^16.
@@ -108,6 +111,7 @@ impl Fault {
         match &self.what {
             What::Value(at, bytes) => part.body[*at..at + bytes.len()].copy_from_slice(bytes),
             What::OtherSong(len) | What::Body(len) => part.resize(*len),
+            What::Name(number) => part.body = vec![*number],
             What::Tag(tag) => part.tag = *tag,
             What::Length(more) => part.length = part.length.wrapping_add(*more),
             What::Before(bytes) => part.before = bytes.clone(),
@@ -139,8 +143,8 @@ impl Fault {
 
 /// The sheet's bytes with these faults, one after the other.
 pub fn faulty(sheet: &Bodies, faults: &[&Fault]) -> Vec<u8> {
-    let bodies = (0x01..).zip(&sheet.0);
-    let mut parts: Vec<Part> = bodies.map(|(tag, body)| Part::new(tag, body)).collect();
+    let fields = sheet.fields().into_iter();
+    let mut parts: Vec<Part> = fields.map(|(tag, body)| Part::new(tag, &body)).collect();
     for fault in faults {
         fault.apply(&mut parts);
     }
@@ -184,10 +188,19 @@ fn floats_at(all: &mut Vec<Fault>, of: u8, places: &[usize]) {
     }
 }
 
+/// Roles that no note of this lane has.
+fn no_roles(tag: u8) -> Vec<u8> {
+    let others = match tag {
+        0x05 => BACKING..=BACKING,
+        _ => 0..=BACKING - 1,
+    };
+    others.chain([BACKING + 1, 128, 255]).collect()
+}
+
 /// Values out of range in each event of a field.
-fn event_values(all: &mut Vec<Fault>, events: EventField, body: &[u8]) {
-    let EventField { tag, width, .. } = events;
-    for at in (0..body.len()).step_by(width) {
+fn event_values(all: &mut Vec<Fault>, tag: u8, sheet: &Bodies) {
+    let width = sheet.edition.event_width(tag);
+    for at in (0..sheet.body(tag).len()).step_by(width) {
         bytes_at(all, tag, at, &[8, 128, 255]);
         if tag == 0x07 {
             bytes_at(all, tag, at + 1, &[4, 5, 128, 255]);
@@ -195,6 +208,9 @@ fn event_values(all: &mut Vec<Fault>, events: EventField, body: &[u8]) {
         } else {
             bytes_at(all, tag, at + 5, &[128, 255]);
             floats_at(all, tag, &[at + 1, at + 6, at + 10]);
+        }
+        if tag != 0x07 && sheet.edition == Edition::Two {
+            bytes_at(all, tag, at + width - 1, &no_roles(tag));
         }
     }
 }
@@ -231,7 +247,7 @@ pub fn value_faults(sheet: &Bodies) -> Vec<Fault> {
         bytes_at(&mut all, 0x04, at, &[12, 128, 255]);
     }
     for events in EVENT_FIELDS {
-        event_values(&mut all, events, sheet.body(events.tag));
+        event_values(&mut all, events.tag, sheet);
     }
     shape_values(&mut all, sheet.body(0x09));
     let plays = sheet.body(0x0a);
@@ -244,51 +260,86 @@ pub fn value_faults(sheet: &Bodies) -> Vec<Fault> {
     all
 }
 
+/// Lengths that no field of a lane has in this edition.
+fn no_event_lengths(edition: Edition, events: EventField) -> Vec<usize> {
+    let EventField { tag, most } = events;
+    let (width, other) = (edition.event_width(tag), edition.other().event_width(tag));
+    let full = most * width;
+    let beside = [1, width - 1, width + 1, 2 * width - 1, full - 1, full + 1];
+    // counted in one byte, some of these are few events
+    let above = [most + 1, 255, 256, 257, 65_535 / width].map(|n| n * width);
+    let mut all = [&beside[..], &above, &[65_535]].concat();
+    if other != width {
+        // whole notes of the other edition
+        all.extend([2, most].map(|n| n * other));
+    }
+    all
+}
+
 /// Lengths that no sheet's field of this tag has.
-fn no_lengths(tag: u8) -> Vec<usize> {
-    let events = EVENT_FIELDS.into_iter().find(|events| events.tag == tag);
-    if let Some(EventField { most, width, .. }) = events {
-        let full = most * width;
-        let beside = [1, width - 1, width + 1, 2 * width - 1, full - 1, full + 1];
-        // counted in one byte, some of these are few events
-        let above = [most + 1, 255, 256, 257, 65_535 / width].map(|n| n * width);
-        return [&beside[..], &above, &[65_535]].concat();
+fn no_lengths(edition: Edition, tag: u8) -> Vec<usize> {
+    if let Some(&events) = EVENT_FIELDS.iter().find(|events| events.tag == tag) {
+        return no_event_lengths(edition, events);
     }
     let few: &[usize] = match tag {
-        0x01 => &[9, 11, 266],
-        0x02 => &[3, 5, 8, 260],
-        0x03 => &[4, 28, 31, 33, 36, 64, 288],
-        0x04 => &[4, 7, 12, 261],
-        0x09 => &[5, 7, 12, 262],
-        _ => &[16, 24, 30, 31, 33, 35, 61, 62, 63, 65, 66, 72, 288],
+        0x00 => &[2, 3, 255, 256, 257],
+        0x01 => &[1, 9, 11, 266],
+        0x02 => &[1, 3, 5, 8, 260],
+        0x03 => &[1, 4, 28, 31, 33, 36, 64, 288],
+        0x04 => &[1, 4, 7, 12, 261],
+        0x09 => &[1, 5, 7, 12, 262],
+        _ => &[1, 16, 24, 30, 31, 33, 35, 61, 62, 63, 65, 66, 72, 288],
     };
-    [few, &[0, 1, 65_535]].concat()
+    [few, &[0, 65_535]].concat()
 }
 
 /// By how much the length in a field's head may be more than the body's, also where that is less modulo 2^16: by a
-/// little, by an event, by its higher byte, and so that it is 0, has its bytes swapped or is far too large.
+/// little, by an event of either edition, by its higher byte, and so that it is 0, has its bytes swapped or is far too
+/// large.
 fn more(len: u16) -> BTreeSet<u16> {
-    let little = [1, 2, 10, 14, 256].map(|n: u16| [n, n.wrapping_neg()]);
+    let little = [1, 2, 10, 14, 15, 256].map(|n: u16| [n, n.wrapping_neg()]);
     let lengths = [0, len.swap_bytes(), 0x7fff, 0x8000 | len, 0xffff];
     let far = lengths.map(|length| length.wrapping_sub(len));
     let all = little.concat().into_iter().chain(far);
     all.filter(|&more| more != 0).collect()
 }
 
+/// Fields and bytes too many in front of a field.
+fn strays(sheet: &Bodies, of: u8) -> Vec<Vec<u8>> {
+    let empty = [0, 0x0b, 0x7f].map(|tag| field(tag, &[]));
+    let named = [1, 3].map(|number| field(0x00, &[number]));
+    let bytes = STRAY.map(|byte| vec![byte]);
+    let mut all = [&empty[..], &named, &bytes].concat();
+    if (sheet.edition, of) != (Edition::One, 0x01) || !sheet.fits_other() {
+        all.push(front(Edition::Two));
+    }
+    all
+}
+
 /// The faults of one field: tag, length, body, a field or a byte too many in front of it, and its place among the
 /// others.
-fn field_faults(all: &mut Vec<Fault>, sheet: &Bodies, of: u8) {
-    let tags = [0, of - 1, of + 1, of + 16, of | 0x80, 0x7f, 0xff];
-    let lengths = more(sheet.body(of).len() as u16);
-    let extra = [0, 0x0b, 0x7f].map(|tag| field(tag, &[]));
-    let stray = STRAY.map(|byte| vec![byte]);
-    let what = (BTreeSet::from(tags).into_iter().map(What::Tag))
-        .chain(lengths.into_iter().map(What::Length))
-        .chain(no_lengths(of).into_iter().map(What::Body))
-        .chain(extra.into_iter().chain(stray).map(What::Before))
-        .chain([What::Missing, What::Doubled])
+fn field_faults(all: &mut Vec<Fault>, sheet: &Bodies, (of, body): (u8, &[u8])) {
+    let tags = [
+        0,
+        of.wrapping_sub(1),
+        of + 1,
+        of + 16,
+        of | 0x80,
+        0x7f,
+        0xff,
+    ];
+    let tags = BTreeSet::from(tags).into_iter().filter(|&tag| tag != of);
+    let bodies = no_lengths(sheet.edition, of).into_iter();
+    let what = (tags.map(What::Tag))
+        .chain(more(body.len() as u16).into_iter().map(What::Length))
+        .chain(bodies.map(What::Body))
+        .chain(strays(sheet, of).into_iter().map(What::Before))
+        .chain([What::Doubled])
         .chain((of + 1..=0x0a).map(What::Swapped));
     all.extend(what.map(|what| fault(of, what)));
+    if of != 0x00 || !sheet.fits_other() {
+        all.push(fault(of, What::Missing));
+    }
     // the last field stands behind all others as it is, and twice there is doubled
     if of < 0x0a {
         all.extend([What::Last, What::Again].map(|what| fault(of, what)));
@@ -298,11 +349,16 @@ fn field_faults(all: &mut Vec<Fault>, sheet: &Bodies, of: u8) {
 /// Each kind of fault of the fields at each place of this sheet.
 pub fn structure_faults(sheet: &Bodies) -> Vec<Fault> {
     let mut all = Vec::new();
-    for of in 0x01..=0x0a {
-        field_faults(&mut all, sheet, of);
+    for (of, body) in sheet.fields() {
+        field_faults(&mut all, sheet, (of, &body));
+    }
+    if sheet.edition == Edition::Two {
+        let numbers = [0, 1, 3, 128, 255];
+        all.extend(numbers.map(|number| fault(0x00, What::Name(number))));
     }
     let again = field(0x0a, sheet.body(0x0a));
-    for bytes in [&[0], &[1], &[0x0a, 0, 0][..], &[0x0b, 0, 0], &again] {
+    let name = front(Edition::Two);
+    for bytes in [&[0], &[1], &[0x0a, 0, 0][..], &[0x0b, 0, 0], &name, &again] {
         all.push(fault(0x0a, What::Behind(bytes.to_vec())));
     }
     all

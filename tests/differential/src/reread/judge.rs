@@ -1,31 +1,32 @@
-//! The driver's own reader of sheets, by documents 01 and 02 alone. It composes nothing and writes nothing: it says
-//! whether bytes are a sheet, and else by which number they are refused.
+//! The driver's own reader of sheets of both editions, by documents 01 and 02 alone. It composes nothing and writes
+//! nothing: it says whether bytes are a sheet, and else by which number they are refused.
+
+use crate::bytes::front;
+use crate::edition::{BACKING, Edition, HIT_WIDTH};
 
 /// Document 02's refusals of a sheet: its fields, and only then its values.
 pub const FIELDS: i64 = 7;
 pub const VALUES: i64 = 8;
 
-/// How many bytes a note and a hit have.
-const NOTE: usize = 14;
-const HIT: usize = 10;
-
 /// Whether the bytes are a sheet. A fault of the fields anywhere comes before a fault of a value anywhere.
 pub fn judge(sheet: &[u8]) -> Result<(), i64> {
-    let bodies = bodies(sheet).ok_or(FIELDS)?;
-    match within(bodies) {
+    let edition = Edition::of(sheet);
+    let bodies = bodies(edition, sheet).ok_or(FIELDS)?;
+    match within(edition, bodies) {
         true => Ok(()),
         false => Err(VALUES),
     }
 }
 
-/// The bodies of ten fields in their order, each of a length that some sheet has there, and nothing behind them.
-fn bodies(sheet: &[u8]) -> Option<[&[u8]; 10]> {
-    let mut rest = sheet;
+/// The bodies of ten fields in their order, each of a length that some sheet has there, with nothing behind them, and
+/// before them nothing but what leads the edition.
+fn bodies(edition: Edition, sheet: &[u8]) -> Option<[&[u8]; 10]> {
+    let mut rest = sheet.strip_prefix(&front(edition)[..])?;
     let mut bodies = [&[][..]; 10];
     for (tag, body) in (0x01..).zip(&mut bodies) {
         let (head, after) = rest.split_first_chunk::<3>()?;
         let length = u16::from_be_bytes([head[1], head[2]]).into();
-        if head[0] != tag || !may_have(tag, length) {
+        if head[0] != tag || !may_have(edition, tag, length) {
             return None;
         }
         (*body, rest) = after.split_at_checked(length)?;
@@ -34,17 +35,18 @@ fn bodies(sheet: &[u8]) -> Option<[&[u8]; 10]> {
 }
 
 /// Whether some sheet's field of this tag has this length.
-fn may_have(tag: u8, length: usize) -> bool {
-    let events = |most: usize, width: usize| length <= most * width && length % width == 0;
+fn may_have(edition: Edition, tag: u8, length: usize) -> bool {
+    let width = edition.event_width(tag);
+    let events = |most: usize| length <= most * width && length % width == 0;
     match tag {
         0x01 => length == 10,
         0x02 => length == 4,
         0x03 => length == 8 * 4,
         0x04 => length == 5 || length == 6,
-        0x05 => events(56, NOTE),
-        0x06 => events(128, NOTE),
-        0x07 => events(98, HIT),
-        0x08 => events(104, NOTE),
+        0x05 => events(56),
+        0x06 => events(128),
+        0x07 => events(98),
+        0x08 => events(104),
         0x09 => length == 6,
         _ => song_lengths().any(|bars| bars == length),
     }
@@ -59,16 +61,20 @@ fn song_lengths() -> impl Iterator<Item = usize> {
 }
 
 /// Whether each value is in its range, and the last field has a byte for each bar of this very song.
-fn within(bodies: [&[u8]; 10]) -> bool {
+fn within(edition: Edition, bodies: [&[u8]; 10]) -> bool {
     let [song, tempo, chords, scale, lanes @ .., form, plays] = bodies;
     let [lead, keys, hits, bass] = lanes;
     let named = song[0] < 2 && song[9] < 4;
     let harmony = chords.iter().all(|&note| note < 128) && scale.iter().all(|&class| class < 12);
-    let mut notes = [lead, keys, bass].into_iter();
-    let notes = notes.all(|lane| lane.chunks_exact(NOTE).all(is_note));
-    let hits = hits.chunks_exact(HIT).all(is_hit);
+    let notes = |lane: &[u8], may_be: fn(u8) -> bool| {
+        let mut notes = lane.chunks_exact(edition.note_width());
+        notes.all(|note| is_note(note, may_be))
+    };
+    let lead = notes(lead, |role| role < BACKING);
+    let backing = [keys, bass].map(|lane| notes(lane, |role| role == BACKING));
+    let hits = hits.chunks_exact(HIT_WIDTH).all(is_hit);
     let played = bars_of(form) == Some(plays.len()) && plays.iter().all(|&layers| layers < 16);
-    named && is_finite(tempo) && harmony && notes && hits && played
+    named && is_finite(tempo) && harmony && lead && backing == [true; 2] && hits && played
 }
 
 /// Whether these four bytes are the bits of a number: no infinity and no NaN. Any other number will do.
@@ -77,10 +83,11 @@ fn is_finite(bits: &[u8]) -> bool {
     f32::from_bits(u32::from_be_bytes(bits)).is_finite()
 }
 
-/// A note: bar, time, MIDI note, velocity, duration.
-fn is_note(note: &[u8]) -> bool {
-    let floats = [&note[1..5], &note[6..10], &note[10..14]];
-    note[0] < 8 && note[5] < 128 && floats.into_iter().all(is_finite)
+/// A note: bar, time, MIDI note, velocity, duration, and in edition 2 one of the roles that it may have.
+fn is_note(note: &[u8], may_be: fn(u8) -> bool) -> bool {
+    let (floats, role) = ([&note[1..5], &note[6..10], &note[10..14]], &note[14..]);
+    let told = role.iter().all(|&role| may_be(role));
+    note[0] < 8 && note[5] < 128 && floats.into_iter().all(is_finite) && told
 }
 
 /// A hit: bar, kind, time, gain.

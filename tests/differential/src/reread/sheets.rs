@@ -1,8 +1,9 @@
 //! Sheets of no seed: each value is drawn from all that document 02 lets a sheet have there.
 
-use crate::bytes::field;
+use crate::bytes::{field, front};
 use crate::dsp::NoiseStream;
 use crate::dsp::reach::{next_u64, stream};
+use crate::edition::{BACKING, Edition};
 use std::collections::BTreeSet;
 
 /// Numbers at the ends of what is finite, of both signs: zeros, the largest, the smallest that is normal, the largest
@@ -21,23 +22,22 @@ const ODD: [u32; 11] = [
     0x8000_0001,
 ];
 
-/// The field of a lane's events: its tag, the most events that it may have and how many bytes an event has.
+/// The field of a lane's events: its tag and the most events that it may have.
 #[derive(Clone, Copy)]
 pub struct EventField {
     pub tag: u8,
     pub most: usize,
-    pub width: usize,
 }
 
-const fn event_field(tag: u8, most: usize, width: usize) -> EventField {
-    EventField { tag, most, width }
+const fn event_field(tag: u8, most: usize) -> EventField {
+    EventField { tag, most }
 }
 
 pub const EVENT_FIELDS: [EventField; 4] = [
-    event_field(0x05, 56, 14),
-    event_field(0x06, 128, 14),
-    event_field(0x07, 98, 10),
-    event_field(0x08, 104, 14),
+    event_field(0x05, 56),
+    event_field(0x06, 128),
+    event_field(0x07, 98),
+    event_field(0x08, 104),
 ];
 
 /// As many events as the lanes can have.
@@ -104,33 +104,54 @@ impl Shape {
     }
 }
 
-/// A sheet by the bodies of its fields, 0x01 first.
+/// A sheet by its edition and the bodies of its ten fields, 0x01 first.
 #[derive(Clone)]
-pub struct Bodies(pub [Vec<u8>; 10]);
+pub struct Bodies {
+    pub edition: Edition,
+    bodies: [Vec<u8>; 10],
+}
 
 impl Bodies {
     /// The sheet of these bytes, which are known to be one.
     pub fn of(bytes: &[u8]) -> Bodies {
-        let mut rest = bytes;
-        Bodies(std::array::from_fn(|_| {
+        let edition = Edition::of(bytes);
+        let mut rest = &bytes[front(edition).len()..];
+        let bodies = std::array::from_fn(|_| {
             let end = 3 + usize::from(u16::from_be_bytes([rest[1], rest[2]]));
             let body = rest[3..end].to_vec();
             rest = &rest[end..];
             body
-        }))
+        });
+        Bodies { edition, bodies }
     }
 
     pub fn body(&self, tag: u8) -> &Vec<u8> {
-        &self.0[usize::from(tag) - 1]
+        &self.bodies[usize::from(tag) - 1]
     }
 
     pub fn set(&mut self, tag: u8, body: Vec<u8>) {
-        self.0[usize::from(tag) - 1] = body;
+        self.bodies[usize::from(tag) - 1] = body;
+    }
+
+    /// All fields by their tags and bodies, the one that names the edition included.
+    pub fn fields(&self) -> Vec<(u8, Vec<u8>)> {
+        let name = self.edition.name().map(|number| (0x00, vec![number]));
+        let others = (0x01..).zip(self.bodies.clone());
+        name.into_iter().chain(others).collect()
     }
 
     pub fn bytes(&self) -> Vec<u8> {
-        let fields = (0x01..).zip(&self.0);
-        fields.flat_map(|(tag, body)| field(tag, body)).collect()
+        let fields = self.fields().into_iter();
+        fields.flat_map(|(tag, body)| field(tag, &body)).collect()
+    }
+
+    /// Whether the lanes are whole in the other edition too, as empty ones are, and as 14 notes of 15 bytes are 15 of
+    /// 14. The field that names edition 2 may then come or go, and no fault of the fields is made.
+    pub fn fits_other(&self) -> bool {
+        EVENT_FIELDS.iter().all(|events| {
+            let width = self.edition.other().event_width(events.tag);
+            self.body(events.tag).len() % width == 0
+        })
     }
 }
 
@@ -177,9 +198,16 @@ impl Draws {
         bits.to_be_bytes()
     }
 
-    fn note(&mut self) -> Vec<u8> {
+    /// A note of this lane.
+    fn note(&mut self, edition: Edition, tag: u8) -> Vec<u8> {
         let (bar, at, midi) = (self.byte_below(8), self.float(), self.byte_below(128));
-        [&[bar], &at[..], &[midi], &self.float(), &self.float()].concat()
+        let (vel, dur) = (self.float(), self.float());
+        let role = match (edition, tag) {
+            (Edition::One, _) => vec![],
+            (Edition::Two, 0x05) => vec![self.byte_below(BACKING)],
+            (Edition::Two, _) => vec![BACKING],
+        };
+        [&[bar], &at[..], &[midi], &vel, &dur, &role].concat()
     }
 
     fn hit(&mut self) -> Vec<u8> {
@@ -187,9 +215,12 @@ impl Draws {
         [&[bar, kind], &self.float()[..], &self.float()].concat()
     }
 
-    fn events(&mut self, tag: u8, count: usize) -> Vec<u8> {
-        let event = if tag == 0x07 { Self::hit } else { Self::note };
-        (0..count).flat_map(|_| event(self)).collect()
+    fn events(&mut self, edition: Edition, tag: u8, count: usize) -> Vec<u8> {
+        let event = |_| match tag {
+            0x07 => self.hit(),
+            _ => self.note(edition, tag),
+        };
+        (0..count).flat_map(event).collect()
     }
 
     pub fn shape(&mut self) -> Shape {
@@ -202,22 +233,23 @@ impl Draws {
     }
 
     /// A sheet with so many events in its lanes and a song of this shape; the rest is drawn.
-    pub fn sheet(&mut self, counts: [usize; 4], shape: Shape) -> Bodies {
+    pub fn sheet(&mut self, edition: Edition, counts: [usize; 4], shape: Shape) -> Bodies {
         let (style, seed, voice) = (self.byte_below(2), self.word(), self.byte_below(4));
         let [lead, keys, hits, bass] = counts;
         let scale = 5 + self.below(2);
-        Bodies([
+        let bodies = [
             [&[style], &seed.to_be_bytes()[..], &[voice]].concat(),
             self.float().to_vec(),
             self.bytes_below(32, 128),
             self.bytes_below(scale, 12),
-            self.events(0x05, lead),
-            self.events(0x06, keys),
-            self.events(0x07, hits),
-            self.events(0x08, bass),
+            self.events(edition, 0x05, lead),
+            self.events(edition, 0x06, keys),
+            self.events(edition, 0x07, hits),
+            self.events(edition, 0x08, bass),
             shape.body(),
             self.bytes_below(shape.bars(), 16),
-        ])
+        ];
+        Bodies { edition, bodies }
     }
 
     /// Counts of events: in each lane none, as many as it can have, or any number up to that.
