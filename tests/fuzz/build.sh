@@ -18,7 +18,7 @@ make_ready() {
 
 # write_starts ROOM FOLDER: writes the inputs to start from into FOLDER, by a program that it builds in ROOM.
 write_starts() {
-    cc "${flags[@]}" -o "$1/starts" tests/fuzz/starts.c "$library"
+    cc "${flags[@]}" -o "$1/starts" tests/fuzz/starts.c tests/fuzz/judge.c "$library"
     "$1/starts" "$2"
 }
 

@@ -2,29 +2,48 @@
  * input is new, but this file is compiled with them, and it counts by itself where it finds a first fault. */
 #include "judge.h"
 
-const struct shape SHAPES[FIELDS] = {
-    [SONG] = {10, 1, 1},   [TEMPO] = {4, 1, 1},  [CHORDS] = {32, 1, 1}, [SCALE] = {1, 5, 6}, [LEAD] = {14, 0, 56},
-    [KEYS] = {14, 0, 128}, [HITS] = {10, 0, 98}, [BASS] = {14, 0, 104}, [FORM] = {6, 1, 1},  [BARS] = {1, 32, 64},
-};
+int edition_of(const uint8_t *sheet, size_t len) {
+    return len > 0 && sheet[0] == EDITION ? 2 : 1;
+}
+
+size_t first_field(int edition) {
+    return edition == 2 ? EDITION : SONG;
+}
+
+struct shape shape_of(int edition, size_t field) {
+    /* in edition 1 a note ends where its role would be */
+    const size_t note = edition == 2 ? ROLE_AT + 1 : ROLE_AT;
+    const struct shape shapes[FIELDS] = {
+        [EDITION] = {1, 1, 1},   [SONG] = {10, 1, 1},    [TEMPO] = {4, 1, 1},     [CHORDS] = {32, 1, 1},
+        [SCALE] = {1, 5, 6},     [LEAD] = {note, 0, 56}, [KEYS] = {note, 0, 128}, [HITS] = {10, 0, 98},
+        [BASS] = {note, 0, 104}, [FORM] = {6, 1, 1},     [BARS] = {1, 32, 64},
+    };
+
+    return shapes[field];
+}
 
 /* What can be wrong with a field, and where a value stands: in the first, the last or another entry of its field. */
-enum fault { HEAD, TAG, LENGTH, CUT_OFF, FAULTS };
+enum fault { HEAD, TAG, LENGTH, CUT_OFF, OTHER_NAME, FAULTS };
 enum entry { FIRST, OTHER, LAST, ENTRIES };
+#define EDITIONS 2
 #define PARTS 6
 
-/* The place of this input's first fault. libFuzzer reads and clears this section as it does the compiler's counters.
- * Where COUNTED is defined already (reader.c), the fuzzer is not to see it. */
+/* The edition of this input. */
+static int edition;
+
+/* The place of its first fault. libFuzzer reads and clears this section as it does the compiler's counters. Where
+ * COUNTED is defined already (reader.c), the fuzzer is not to see it. */
 #ifndef COUNTED
 #define COUNTED __attribute__((section("__libfuzzer_extra_counters")))
 #endif
-COUNTED static uint8_t faults[FIELDS + 1][FAULTS];
-COUNTED static uint8_t values[FIELDS][PARTS][ENTRIES];
+COUNTED static uint8_t faults[EDITIONS][FIELDS + 1][FAULTS];
+COUNTED static uint8_t values[EDITIONS][FIELDS][PARTS][ENTRIES];
 
-static uint8_t faults_ever[FIELDS + 1][FAULTS];
-static uint8_t values_ever[FIELDS][PARTS][ENTRIES];
+static uint8_t faults_ever[EDITIONS][FIELDS + 1][FAULTS];
+static uint8_t values_ever[EDITIONS][FIELDS][PARTS][ENTRIES];
 
 static int fault(size_t field, enum fault what) {
-    faults[field][what] = faults_ever[field][what] = 1;
+    faults[edition - 1][field][what] = faults_ever[edition - 1][field][what] = 1;
     return 7;
 }
 
@@ -32,12 +51,12 @@ static int fault(size_t field, enum fault what) {
 static int bad(size_t field, size_t part, size_t i, size_t n) {
     enum entry which = i == 0 ? FIRST : i == n - 1 ? LAST : OTHER;
 
-    values[field][part][which] = values_ever[field][part][which] = 1;
+    values[edition - 1][field][part][which] = values_ever[edition - 1][field][part][which] = 1;
     return 8;
 }
 
 unsigned places_seen(void) {
-    const uint8_t *all[] = {&faults_ever[0][0], &values_ever[0][0][0]};
+    const uint8_t *all[] = {&faults_ever[0][0][0], &values_ever[0][0][0][0]};
     const size_t counts[] = {sizeof faults_ever, sizeof values_ever};
     unsigned seen = 0;
     size_t i, k;
@@ -69,12 +88,12 @@ static int is_song(size_t bars) {
 
 /* Whether some sheet's field is so long. */
 static int fits(size_t field, size_t len) {
-    const struct shape *s = &SHAPES[field];
+    const struct shape s = shape_of(edition, field);
 
     if (field == BARS) {
         return is_song(len);
     }
-    return len % s->width == 0 && len / s->width >= s->least && len / s->width <= s->most;
+    return len % s.width == 0 && len / s.width >= s.least && len / s.width <= s.most;
 }
 
 /* Whether an f32 in four bytes is a number: its exponent is not all ones. */
@@ -93,11 +112,16 @@ static int below(size_t field, size_t part, const uint8_t *body, size_t n, unsig
     return 0;
 }
 
+/* Whether a note of this lane may have such a role. */
+static int plays(size_t field, uint8_t role) {
+    return field == LEAD ? role < BACKING : role == BACKING;
+}
+
 static int notes(size_t field, const uint8_t *body, size_t len) {
-    size_t i, n = len / 14;
+    size_t i, width = shape_of(edition, field).width, n = len / width;
 
     for (i = 0; i < n; i++) {
-        const uint8_t *e = body + 14 * i;
+        const uint8_t *e = body + width * i;
 
         if (e[0] > 7) {
             return bad(field, 0, i, n);
@@ -114,15 +138,18 @@ static int notes(size_t field, const uint8_t *body, size_t len) {
         if (!is_finite(e + 10)) {
             return bad(field, 4, i, n);
         }
+        if (edition == 2 && !plays(field, e[ROLE_AT])) {
+            return bad(field, 5, i, n);
+        }
     }
     return 0;
 }
 
 static int hits(const uint8_t *body, size_t len) {
-    size_t i, n = len / 10;
+    size_t i, width = shape_of(edition, HITS).width, n = len / width;
 
     for (i = 0; i < n; i++) {
-        const uint8_t *e = body + 10 * i;
+        const uint8_t *e = body + width * i;
 
         if (e[0] > 7) {
             return bad(HITS, 0, i, n);
@@ -174,7 +201,7 @@ static int form(const uint8_t *f, const uint8_t *bars, size_t len) {
     return below(BARS, 1, bars, len, 16);
 }
 
-/* 8 where a value of these ten bodies is out of range. */
+/* 8 where a value of these bodies, from that of SONG on, is out of range. */
 static int valued(const uint8_t *const *body, const size_t *len) {
     size_t lane;
     int refusal;
@@ -202,11 +229,12 @@ int judged(const uint8_t *sheet, size_t len) {
     const uint8_t *body[FIELDS];
     size_t size[FIELDS], k, at = 0;
 
-    for (k = 0; k < FIELDS; k++) {
+    edition = edition_of(sheet, len);
+    for (k = first_field(edition); k < FIELDS; k++) {
         if (len - at < 3) {
             return fault(k, HEAD);
         }
-        if (sheet[at] != k + 1) {
+        if (sheet[at] != k) {
             return fault(k, TAG);
         }
         size[k] = (size_t)sheet[at + 1] << 8 | sheet[at + 2];
@@ -219,6 +247,9 @@ int judged(const uint8_t *sheet, size_t len) {
         }
         body[k] = sheet + at;
         at += size[k];
+        if (k == EDITION && body[k][0] != NAME) {
+            return fault(k, OTHER_NAME);
+        }
     }
     if (at != len) {
         return fault(FIELDS, TAG); /* trailing */

@@ -9,9 +9,10 @@
 size_t LLVMFuzzerMutate(uint8_t *data, size_t size, size_t most);
 size_t LLVMFuzzerCustomMutator(uint8_t *data, size_t size, size_t most, unsigned seed);
 
-/* The input, and how long it may become. */
+/* The input, how long it may become, and its edition. */
 static uint8_t *bytes;
 static size_t size, most;
+static int edition;
 
 static uint64_t state;
 
@@ -33,16 +34,26 @@ static void set_length(size_t at, size_t length) {
     bytes[at + 2] = (uint8_t)length;
 }
 
-/* Where the fields start that stand there whole, and in starts[n] where the last one ends; answers n. */
+/* Where the fields start that stand there whole, by their numbers, from the edition's first one on; and in starts[n]
+ * where the last one ends. Answers n. */
 static size_t whole_fields(size_t *starts) {
-    size_t n = 0;
+    size_t n;
 
-    starts[0] = 0;
+    edition = edition_of(bytes, size);
+    n = first_field(edition);
+    starts[n] = 0;
     while (n < FIELDS && size - starts[n] >= 3 && size - starts[n] - 3 >= length_at(starts[n])) {
         starts[n + 1] = starts[n] + 3 + length_at(starts[n]);
         n++;
     }
     return n;
+}
+
+/* One of the fields before field n. */
+static size_t some_field(size_t n) {
+    size_t first = first_field(edition);
+
+    return first + draw(n - first);
 }
 
 /* Puts `come` bytes in the place of `gone` ones. Where they are more, those that stood there and behind stay, and
@@ -84,41 +95,51 @@ static size_t float_part(size_t field) {
 }
 
 static void change_value(const size_t *starts, size_t n) {
-    size_t field = draw(n), at = starts[field] + 3, entries = length_at(starts[field]) / SHAPES[field].width, entry;
-    int has_floats = field == TEMPO || (field >= LEAD && field <= BASS);
+    const size_t field = some_field(n), width = shape_of(edition, field).width;
+    size_t at = starts[field] + 3, entries = length_at(starts[field]) / width, entry;
+    int has_floats = field == TEMPO || (field >= LEAD && field <= BASS), has_role = has_floats && width > ROLE_AT;
 
     if (entries == 0) {
         return;
     }
     /* often the last entry, since a reader may stop before it */
     entry = draw(3) == 0 ? entries - 1 : draw(entries);
-    at += entry * SHAPES[field].width;
+    at += entry * width;
     if (has_floats && draw(2) == 0) {
         set_odd_float(bytes + at + float_part(field));
+    } else if (has_role && draw(4) == 0) {
+        bytes[at + ROLE_AT] = (uint8_t)draw(BACKING + 2);
     } else {
-        bytes[at + draw(SHAPES[field].width)] = odd_byte();
+        bytes[at + draw(width)] = odd_byte();
     }
+}
+
+/* A role that notes of this lane may have. */
+static uint8_t some_role(size_t field) {
+    return field == LEAD ? (uint8_t)draw(BACKING) : BACKING;
 }
 
 /* Gives a field another number of entries, with the length that they have, or seldom one that is not theirs. */
 static void resize(const size_t *starts, size_t field, size_t entries) {
-    size_t at = starts[field], old = length_at(at), new = entries * SHAPES[field].width;
+    const size_t width = shape_of(edition, field).width;
+    size_t at = starts[field], old = length_at(at), new = entries * width;
     size_t kept = old < new ? old : new, i;
 
     if (!splice(at + 3 + kept, old - kept, new - kept)) {
         return;
     }
-    for (i = at + 3 + kept; i < at + 3 + new; i++) {
-        /* an entry more is a copy of the one before it */
-        bytes[i] = i - at - 3 >= SHAPES[field].width ? bytes[i - SHAPES[field].width] : 0;
+    for (i = kept; i < new; i++) {
+        /* an entry more is a copy of the one before it, and the first one zeros and a role */
+        bytes[at + 3 + i] = i >= width ? bytes[at + 3 + i - width] : i == ROLE_AT ? some_role(field) : 0;
     }
     set_length(at, draw(16) == 0 ? new + draw(3) - 1 : new);
 }
 
 static void change_count(const size_t *starts, size_t n) {
-    size_t field = n > SCALE ? SCALE + draw(n - SCALE) : draw(n);
-    const struct shape *s = &SHAPES[field];
-    const size_t counts[] = {s->least, s->least + 1, s->most - 1, s->most, s->most + 1, draw(s->most + 1)};
+    /* seldom one of the first fields, of which no sheet has other counts */
+    const size_t field = n > SCALE && draw(8) != 0 ? SCALE + draw(n - SCALE) : some_field(n);
+    const struct shape s = shape_of(edition, field);
+    const size_t counts[] = {s.least, s.least + 1, s.most - 1, s.most, s.most + 1, draw(s.most + 1)};
 
     resize(starts, field, counts[draw(6)]);
 }
@@ -149,9 +170,9 @@ static void change_form(const size_t *starts, size_t n) {
 }
 
 static void change_head(const size_t *starts, size_t n) {
-    size_t field = draw(n), at = starts[field], old = length_at(at);
-    const size_t lengths[] = {old + 1, old - 1, old + SHAPES[field].width, old - SHAPES[field].width,
-                              old + 256, old ^ 1, 0, 0xffff};
+    const size_t field = some_field(n), width = shape_of(edition, field).width;
+    const size_t at = starts[field], old = length_at(at);
+    const size_t lengths[] = {old + 1, old - 1, old + width, old - width, old + 256, old ^ 1, 0, 0xffff};
 
     if (draw(3) == 0) {
         bytes[at] = draw(2) == 0 ? (uint8_t)(bytes[at] + 1) : (uint8_t)draw(256);
@@ -162,7 +183,7 @@ static void change_head(const size_t *starts, size_t n) {
 
 /* Leaves a field out, or gives one twice. */
 static void change_fields(const size_t *starts, size_t n) {
-    size_t field = draw(n), at = starts[field], length = starts[field + 1] - at;
+    size_t field = some_field(n), at = starts[field], length = starts[field + 1] - at;
 
     if (draw(2) == 0) {
         splice(at, length, 0);
@@ -173,7 +194,7 @@ static void change_fields(const size_t *starts, size_t n) {
 
 /* Cuts the input off, mostly within or behind a field that is whole, or lets bytes trail. */
 static void change_end(const size_t *starts, size_t n) {
-    size_t more = 1 + draw(8), end = starts[draw(n + 1)] + draw(5);
+    size_t more = 1 + draw(8), end = starts[some_field(n + 1)] + draw(5);
 
     if (draw(2) == 0) {
         size = end < size ? end : draw(size + 1);
@@ -183,14 +204,59 @@ static void change_end(const size_t *starts, size_t n) {
     }
 }
 
-/* The sheet of some song. */
+/* Gives each note of a lane a role more, or takes it away. */
+static void change_roles(size_t start, size_t field, int other) {
+    const size_t old = shape_of(edition, field).width, new = shape_of(other, field).width;
+    size_t entry = length_at(start) / old;
+
+    set_length(start, entry * new);
+    while (entry > 0) {
+        size_t at = start + 3 + --entry * old + ROLE_AT;
+
+        if (splice(at, old - ROLE_AT, new - ROLE_AT) && other == 2) {
+            bytes[at] = some_role(field);
+        }
+    }
+}
+
+/* The same sheet in the other edition; seldom with a lane, or with what leads it, as it was. */
+static void change_edition(const size_t *starts, size_t n) {
+    static const uint8_t front[] = {EDITION, 0, 1, NAME};
+    static const size_t lanes[] = {BASS, KEYS, LEAD};
+    const int other = edition == 1 ? 2 : 1;
+    size_t i;
+
+    if (n < FIELDS) {
+        return;
+    }
+    /* from the last on, so that those before stay where they start */
+    for (i = 0; i < 3; i++) {
+        if (draw(16) != 0) {
+            change_roles(starts[lanes[i]], lanes[i], other);
+        }
+    }
+    if (draw(16) == 0) {
+        return;
+    }
+    if (other == 1) {
+        splice(0, starts[SONG], 0);
+    } else if (splice(0, 0, sizeof front)) {
+        memcpy(bytes, front, sizeof front);
+    }
+}
+
+/* The sheet of some song, in either edition. */
 static void start_anew(void) {
     static uint8_t sheet[SEQOCHANU_SHEET_MOST];
     int64_t length = seqochanu_sheet((uint8_t)draw(2), draw(SIZE_MAX), sheet, sizeof sheet);
+    size_t starts[FIELDS + 1];
 
     if (length > 0 && (size_t)length <= most) {
         size = (size_t)length;
         memcpy(bytes, sheet, size);
+        if (draw(2) == 0) {
+            change_edition(starts, whole_fields(starts));
+        }
     }
 }
 
@@ -200,7 +266,8 @@ static void change(const size_t *starts, size_t n) {
     case 1: change_head(starts, n); break;
     case 2: change_fields(starts, n); break;
     case 3: change_end(starts, n); break;
-    case 4: case 5: case 6: change_count(starts, n); break;
+    case 4: change_edition(starts, n); break;
+    case 5: case 6: change_count(starts, n); break;
     case 7: case 8: case 9: change_form(starts, n); break;
     default: change_value(starts, n); break;
     }
@@ -219,7 +286,7 @@ size_t LLVMFuzzerCustomMutator(uint8_t *data, size_t data_size, size_t data_most
     }
     for (changes = 1 + draw(2); changes > 0; changes--) {
         n = whole_fields(starts);
-        if (n == 0) {
+        if (n == first_field(edition)) {
             return LLVMFuzzerMutate(bytes, size, most);
         }
         change(starts, n);

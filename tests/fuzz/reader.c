@@ -1,7 +1,9 @@
 /* A reader in place of the library's, for `wrong`: the judge once more, under other names and with nothing that guides
  * the fuzzer, and the copy into the buffer. As it stands it makes no mistake; `wrong` edits one into a copy of this
  * file and of judge.c. By --wrap, the linker has the fuzzer call it in place of seqochanu_reread. */
-#define SHAPES reader_shapes
+#define edition_of reader_edition
+#define first_field reader_first
+#define shape_of reader_shape
 #define judged reader_refusal
 #define places_seen reader_places
 #define COUNTED
