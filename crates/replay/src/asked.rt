@@ -3,8 +3,12 @@ ghost use Prim.Native.Nat.{_≤_};
 use composer::refusal::Outcome;
 use halls::list::hall_list;
 use pages::answer::Written;
+use pages::edition::Edition;
+use pages::edition::PAGE_MOST;
+use pages::edition::SHEET_MOST;
 use pages::page::bar_page;
 use pages::sheet::sheet;
+use pages::sheet::sheet_in;
 use probe::draws::probe_coins;
 use probe::draws::probe_picks;
 use probe::draws::probe_units;
@@ -127,13 +131,13 @@ fn written_fold(written: Written, buf: &[u8]) -> u64 {
 }
 
 fn sheet_fold(style: u8, seed: u64) -> u64 {
-    let mut buf = [0u8; 5164];
+    let mut buf = [0u8; SHEET_MOST];
     let written = sheet(style, seed, &mut buf);
     written_fold(written, &buf)
 }
 
 fn page_fold(style: u8, seed: u64, bar: u64) -> u64 {
-    let mut buf = [0u8; 663];
+    let mut buf = [0u8; PAGE_MOST];
     let written = bar_page(style, seed, bar, &mut buf);
     written_fold(written, &buf)
 }
@@ -169,7 +173,7 @@ fn lesser(a: usize, b: usize) -> usize
 
 // A fold of what is read and written again, by the call that makes no song.
 fn copied_fold(bytes: &[u8]) -> u64 {
-    let mut buf = [0u8; 5164];
+    let mut buf = [0u8; SHEET_MOST];
     let written = reread(bytes, &mut buf);
     written_fold(written, &buf)
 }
@@ -182,7 +186,7 @@ fn made_fold(bytes: &[u8]) -> u64 {
         Outcome::Refused(x) => x.number() as u64,
         Outcome::Done => {
             let song = r.song;
-            let mut buf = [0u8; 5164];
+            let mut buf = [0u8; SHEET_MOST];
             let written = write(song, &mut buf);
             written_fold(written, &buf)
         }
@@ -202,10 +206,20 @@ fn again_fold(bytes: &[u8], n: usize) -> u64 {
     both_fold(&bytes[..kept])
 }
 
+// Bit 1 of `how`: sheets of edition 1 are kept in the record too.
+fn edition_of(how: u64) -> Edition {
+    if how / 2 % 2 == 1 {
+        Edition::One
+    } else {
+        Edition::Two
+    }
+}
+
 // The sheet of a song, spoiled as `how` tells (README.md), read and written again.
 fn reread_fold(seed: u64, how: u64) -> u64 {
-    let mut buf = [0u8; 5164];
-    let written = sheet((how % 2) as u8, seed, &mut buf);
+    let edition = edition_of(how);
+    let mut buf = [0u8; SHEET_MOST];
+    let written = sheet_in(edition, (how % 2) as u8, seed, &mut buf);
     spoil(&mut buf, how / 65536 % 65536, (how / 256 % 256) as u8);
     match written {
         Written::Bytes(n) => {
