@@ -2,7 +2,7 @@
 use mathlib.Core.Path.{_≡_, refl, sym, ap, subst}
 use mathlib.Core.Bool.{Bool, true, false}
 use mathlib.Core.List.{List, [], _∷_, _++_, map}
-use Prim.Native.Nat.{ℕ, zero, suc, _+_, _-_, _≤_, _<_}
+use Prim.Native.Nat.{ℕ, zero, suc, _-_, _≤_, _<_}
 use native.Mathlib.Omega.{arith}
 use lib.Ieee.{Float}
 use lib.ListN.{length, getD, replicate}
@@ -19,12 +19,9 @@ use Rattle.composer.specs.Early.{EarlyPromise}
 use Rattle.composer.specs.Harmony.{pentatonic, colour, classIn, classesOf, melodyPcsOf, harmonyOf, Tonal}
 use Rattle.composer.specs.Keys.{keysOf}
 use Rattle.composer.specs.Lead.{leadOf}
-use Rattle.composer.specs.Lead.Beats.{pastBeats}
-use Rattle.composer.specs.Lead.Rule.{notesBefore, songBeats, LeadTold}
-use Rattle.composer.specs.Note.{pastNote}
 use Rattle.composer.specs.Promise.{LanesPromise, BarsPromise, EventsPromise, ScorePromise, DrawsPromise, SongPromise}
 use Rattle.composer.specs.Range.{Within, RangePromise}
-use Rattle.composer.specs.Roles.{RolesPromise}
+use Rattle.composer.specs.Roles.{RolesPromise, RolesTold}
 use Rattle.composer.specs.Refusal.{Refuses}
 use Rattle.composer.specs.Style.{leadStyleOf}
 use Rattle.composer.specs.Tempo.{beatsOf, tempoOf}
@@ -207,9 +204,8 @@ module _ (style : Style) (seed : ℕ) where
         scale-rest = subst (λ (x : Scale). (k : ℕ) → x .n ≤ k → getD (x .pcs) k 0 ≡ 0) (sym (tonal .scale)) (pcs-rest (tonal .key) (tonal .major));
       }
 
-  -- each note of the rhythm stands in the lead, with its role by the rule of the melody
-  pub song-told : (k i : ℕ) → k < 8 → i < getD (songBeats (streamOf Stage.Lead seed) style) k pastBeats .n
-      → LeadTold (streamOf Stage.Lead seed) harmony style k i (getD (composedOf style seed .score .lead) (notesBefore (songBeats (streamOf Stage.Lead seed) style) k + i) pastNote)
+  -- every note of the lead has its role by the rule of the melody
+  pub song-told : RolesTold style seed
   unfolding composedOf songBy
   song-told = lead-told (streamOf Stage.Lead seed) harmony tonal style beatS
 

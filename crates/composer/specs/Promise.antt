@@ -66,7 +66,7 @@ pub record ScorePromise (style : Style) (score : Score) (scale : Scale) : Type 0
   pub range : RangePromise score
   -- how few hits are early
   pub early : EarlyPromise score
-  -- why each note is what it is
+  -- the lead's roles are its six, and all others the seventh
   pub roles : RolesPromise score
   -- every loop bar has a hit and a bass note
   pub hit-in-each : (b : ℕ) → b < 8 → Occurs (λ i. hitBar (getD (score .hits) i pastHit)) (score .«hit_count») b

@@ -1,14 +1,14 @@
 -- Every note of the melody has its role by the rule, and so has every lead note of a song. Assumes nothing.
 use mathlib.Core.Path.{_≡_, refl, sym, ap, _∙_, subst}
 use mathlib.Core.Logic.{⊎-elim}
-use mathlib.Core.Bool.{Bool, true, false, cond}
+use mathlib.Core.Bool.{Bool, true, false, cond, not, _&&_, _||_, and-true}
 use mathlib.Core.List.{List}
 use Prim.Native.Nat.{ℕ, zero, suc, _+_, _-_, _*_, _≤_, _<_, min}
 use native.Mathlib.Nat.{eq-or-lt-of-le, le-of-suc-le-suc, not-suc-le-zero}
 use native.Mathlib.Numerals.{add-one}
 use native.Mathlib.Omega.{arith}
-use borrow.Author.Tests.{ltb-true, ltb-false}
-use lib.Dec.{ltb, eqb·suc-zero}
+use borrow.Author.Tests.{eqb-true, ltb-true, ltb-false, ne-eqb}
+use lib.Dec.{eqb, ltb, eqb·suc-zero}
 use lib.ListN.{getD, set, length}
 use lib.Seq.{getD-set-same, getD-set-other}
 use lib.Ieee.{Float, nan, binary32, ofBits}
@@ -20,12 +20,13 @@ use Rattle.composer.specs.Harmony.{Tonal}
 use Rattle.composer.specs.Lead.{sungOf, leadOf}
 use Rattle.composer.specs.Lead.Beats.{pastBeats}
 use Rattle.composer.specs.Lead.Ground.{groundOf}
-use Rattle.composer.specs.Lead.Line.{placeOf, headsOf, carriedOf}
+use Rattle.composer.specs.Lead.Line.{isStrongOf, placeOf, headsOf, carriedOf}
 use Rattle.composer.specs.Lead.Melody.{pastLead, stepOf, firstSungOf, singOf, barTo, startOf, nothingSung, barsTo, melodyOf}
 use Rattle.composer.specs.Lead.Rhythm.{rhythmOf}
-use Rattle.composer.specs.Lead.Role.{quotesOf, peaksOf, leaptOf, chosenOf, chanceRoleOf, roleOf}
-use Rattle.composer.specs.Lead.Rule.{ruleOf, notesBefore, headsIn, pitchBefore, toneDrawn, ByRule, sungBefore, songBeats, songStart, songStream, LeadTold}
+use Rattle.composer.specs.Lead.Role.{notedOf, quotesOf, peaksOf, leaptOf, chosenOf, chanceRoleOf, roleOf}
+use Rattle.composer.specs.Lead.Rule.{ruleOf, notesBefore, headsIn, midiBefore, toneDrawn, sungBefore, songBeats, songStart, songStream, ToldAt, LeadTold}
 use Rattle.composer.specs.Lead.Scale.{poolOf}
+use Rattle.composer.specs.Lead.Tones.{distanceOf}
 use Rattle.composer.specs.Lead.Sound.{Good, Ready}
 use Rattle.composer.specs.Note.{pastNote}
 use Rattle.composer.specs.Style.{leadStyleOf}
@@ -46,9 +47,52 @@ use Rattle.composer.proofs.lead.LeadLaws.{song-ready, keeps}
 use Rattle.composer.proofs.lead.MelodyLaws.{bar-count}
 use Rattle.composer.proofs.lead.PlayedLaws.{played-count}
 
+-- ---- the rule by a note's place, and of the melody before it is played
+ruleBy : Place → ℕ → ℕ → ℕ → Bool → Role
+ruleBy p heads from prev tone =
+    cond (quotesOf p heads) Quote
+    (cond (p .last) Close
+    (cond (peaksOf p) Peak
+    (cond (leaptOf from prev) Resolve
+    (cond (p .strong) ChordTone
+    (cond tone ChordTone Passing)))))
+
+-- the pitch before note n of the melody
+pitchBefore : ℕ → List LeadNote → ℕ → ℕ
+pitchBefore start notes zero = start
+pitchBefore start notes (suc n) = getD notes n pastLead .note
+
+-- note n of the melody is note i of bar k, and has its role by the rule; s is the stream as it was before the note
+record ByRule (start : ℕ) (beats : List Beats) (notes : List LeadNote) (s : NoiseStream) (k i n : ℕ) : Type 0 where
+  bar : getD notes n pastLead .bar ≡ k
+  role : getD notes n pastLead .role
+      ≡ ruleBy (placeOf k (getD beats k pastBeats) i) (headsIn beats) (pitchBefore start notes (n - 1)) (pitchBefore start notes n) (toneDrawn s)
+
+-- in a teacher's words: no note of bar 4 is the last one of bar 7
+rule-said : (bar : ℕ) (b : Beats) (i heads from prev : ℕ) (tone : Bool)
+    → ruleBy (placeOf bar b i) heads from prev tone ≡ ruleOf bar i (b .n) (isStrongOf (getD (b .at) i nan)) heads from prev tone
+unfolding ruleBy
+rule-said bar b i heads from prev tone = go (eqb bar 4) (isStrongOf (getD (b .at) i nan)) tone refl
+  where
+    tail : (strong t : Bool) → cond strong ChordTone (cond t ChordTone Passing) ≡ cond (strong || t) ChordTone Passing
+    tail true t = refl
+    tail false t = refl
+
+    rest : (strong t : Bool) → cond (eqb bar 7 && eqb (i + 1) (b .n)) Close (cond (eqb bar 5 && eqb i 0) Peak (cond (ltb 4 (distanceOf from prev)) Resolve (cond strong ChordTone (cond t ChordTone Passing))))
+        ≡ cond (eqb bar 7 && eqb (i + 1) (b .n)) Close (cond (eqb bar 5 && eqb i 0) Peak (cond (ltb 4 (distanceOf from prev)) Resolve (cond (strong || t) ChordTone Passing)))
+    rest strong t = ap (λ (r : Role). cond (eqb bar 7 && eqb (i + 1) (b .n)) Close (cond (eqb bar 5 && eqb i 0) Peak (cond (ltb 4 (distanceOf from prev)) Resolve r))) (tail strong t)
+
+    go : (four strong t : Bool) → eqb bar 4 ≡ four
+        → cond (four && ltb i heads && not (eqb bar 7 && eqb (i + 1) (b .n))) Quote (cond (eqb bar 7 && eqb (i + 1) (b .n)) Close (cond (eqb bar 5 && eqb i 0) Peak (cond (ltb 4 (distanceOf from prev)) Resolve (cond strong ChordTone (cond t ChordTone Passing)))))
+        ≡ cond (four && ltb i heads) Quote (cond (eqb bar 7 && eqb (i + 1) (b .n)) Close (cond (eqb bar 5 && eqb i 0) Peak (cond (ltb 4 (distanceOf from prev)) Resolve (cond (strong || t) ChordTone Passing))))
+    go true strong t e =
+        let four = eqb-true bar 4 e in
+        rw (ne-eqb bar 7 (λ q. omega (arith, four)), and-true (ltb i heads), tail strong t)
+    go false strong t e = rest strong t
+
 -- ---- the role by the line
-role-by : (l : Line) (p : Place) → roleOf l p .role ≡ ruleOf p (l .heads) (l .from) (l .prev) (toneDrawn (l .stream))
-unfolding roleOf chanceRoleOf ruleOf
+role-by : (l : Line) (p : Place) → roleOf l p .role ≡ ruleBy p (l .heads) (l .from) (l .prev) (toneDrawn (l .stream))
+unfolding roleOf chanceRoleOf ruleBy
 role-by l p = by-cases (quotesOf p (l .heads)) (p .last) (peaksOf p) (leaptOf (l .from) (l .prev)) (p .strong) (toneDrawn (l .stream)) (l .stream) (chanceOf (l .stream) (ofBits binary32 0x3f0c_cccd) .stream)
   where
     by-cases : (a b c d e f : Bool) (s t : NoiseStream)
@@ -97,19 +141,17 @@ module _ (start : ℕ) where
         let prev = before-same xs ys n (λ j b. h j (omega arith)) in
         record {
           bar = ap (λ (x : LeadNote). x .bar) (h n (omega arith)) ∙ r .bar;
-          beat = ap (λ (x : LeadNote). x .beat) (h n (omega arith)) ∙ r .beat;
           role = ap (λ (x : LeadNote). x .role) (h n (omega arith)) ∙ rw (from, prev) (r .role);
         }
 
-    rule-put : (xs : List LeadNote) (n : ℕ) (x : LeadNote) (k i : ℕ) (s : NoiseStream) → n < length xs → x .bar ≡ k → x .beat ≡ getD (getD beats k pastBeats .at) i nan
-        → x .role ≡ ruleOf (placeOf k (getD beats k pastBeats) i) (headsIn beats) (pitchBefore start xs (n - 1)) (pitchBefore start xs n) (toneDrawn s) → ByRule start beats (set xs n x) s k i n
-    rule-put xs n x k i s h b t r =
+    rule-put : (xs : List LeadNote) (n : ℕ) (x : LeadNote) (k i : ℕ) (s : NoiseStream) → n < length xs → x .bar ≡ k
+        → x .role ≡ ruleBy (placeOf k (getD beats k pastBeats) i) (headsIn beats) (pitchBefore start xs (n - 1)) (pitchBefore start xs n) (toneDrawn s) → ByRule start beats (set xs n x) s k i n
+    rule-put xs n x k i s h b r =
         let same = getD-set-same xs n x pastLead h in
         let from = before-put xs n x (n - 1) (omega arith) in
         let prev = before-put xs n x n (omega arith) in
         record {
           bar = ap (λ (y : LeadNote). y .bar) same ∙ b;
-          beat = ap (λ (y : LeadNote). y .beat) same ∙ t;
           role = ap (λ (y : LeadNote). y .role) same ∙ rw (from, prev) r;
         }
 
@@ -120,10 +162,10 @@ module _ (start : ℕ) where
     Heads (suc k) heads = heads ≡ headsIn beats
 
     rule-heads : (k i heads from prev : ℕ) (tone : Bool) → Heads k heads
-        → ruleOf (placeOf k (getD beats k pastBeats) i) heads from prev tone ≡ ruleOf (placeOf k (getD beats k pastBeats) i) (headsIn beats) from prev tone
-    unfolding ruleOf
+        → ruleBy (placeOf k (getD beats k pastBeats) i) heads from prev tone ≡ ruleBy (placeOf k (getD beats k pastBeats) i) (headsIn beats) from prev tone
+    unfolding ruleBy
     rule-heads zero i heads from prev tone h = refl
-    rule-heads (suc k) i heads from prev tone h = ap (λ (n : ℕ). ruleOf (placeOf (suc k) (getD beats (suc k) pastBeats) i) n from prev tone) h
+    rule-heads (suc k) i heads from prev tone h = ap (λ (n : ℕ). ruleBy (placeOf (suc k) (getD beats (suc k) pastBeats) i) n from prev tone) h
 
     module _ (pool : List Bool) (g : Ground) (k : ℕ) where
       abbrev bar : Beats
@@ -136,7 +178,7 @@ module _ (start : ℕ) where
       sing-told : (m : Sung) (i : ℕ) → m .count < length (m .notes) → Traced m → Heads k (m .line .heads) → ByRule start beats (singOf pool g k bar m i .notes) (m .line .stream) k i (m .count)
       unfolding singOf stepOf
       sing-told m i h t e =
-          rule-put (m .notes) (m .count) _ k i (m .line .stream) h refl refl
+          rule-put (m .notes) (m .count) _ k i (m .line .stream) h refl
           (role-by (m .line) (placeOf k bar i) ∙ rule-heads k i (m .line .heads) (m .line .from) (m .line .prev) (toneDrawn (m .line .stream)) e ∙ rw (← t .from, ← t .prev))
 
       -- ---- a bar
@@ -185,6 +227,25 @@ earlier-bar beats c i (suc k) h l =
     (λ (e : c ≡ k). subst (λ (v : ℕ). notesBefore beats c + i < notesBefore beats v + getD beats v pastBeats .n) e (omega arith))
     (λ (e : c < k). omega (arith, earlier-bar beats c i k e l))
     (eq-or-lt-of-le (le-of-suc-le-suc h))
+
+-- which note of which bar it is
+record Placed (beats : List Beats) (k n : ℕ) : Type 0 where
+  bar : ℕ
+  place : ℕ
+  in-loop : bar < k
+  in-bar : place < getD beats bar pastBeats .n
+  stands : n ≡ notesBefore beats bar + place
+
+place-of : (beats : List Beats) (k n : ℕ) → n < notesBefore beats k → Placed beats k n
+unfolding notesBefore
+place-of beats zero n h = absurd (not-suc-le-zero h)
+place-of beats (suc k) n h = go (ltb n (notesBefore beats k)) refl (place-of beats k n)
+  where
+    go : (t : Bool) → ltb n (notesBefore beats k) ≡ t → (n < notesBefore beats k → Placed beats k n) → Placed beats (suc k) n
+    go true e earlier = let p = earlier (ltb-true n (notesBefore beats k) e) in record { bar = p .bar; place = p .place; in-loop = omega (arith, p .in-loop); in-bar = p .in-bar; stands = p .stands }
+    go false e earlier =
+        let l = ltb-false n (notesBefore beats k) e in
+        record { bar = k; place = n - notesBefore beats k; in-loop = omega arith; in-bar = omega arith; stands = omega arith }
 
 -- ---- the eight bars
 module _ (s : NoiseStream) (beats : List Beats) (bars : List Chord) (pool : List Bool) (style : LeadStyle) (ready : Ready beats bars pool style) where
@@ -236,12 +297,12 @@ module _ (s : NoiseStream) (beats : List Beats) (bars : List Chord) (pool : List
       )
 
   -- the melody has as many notes as its rhythm
-  pub melody-count : melodyOf s beats bars pool style .count ≡ notesBefore beats 8
+  melody-count : melodyOf s beats bars pool style .count ≡ notesBefore beats 8
   unfolding melodyOf
   melody-count = count-is 8
 
   -- each has its role by the rule
-  pub melody-told : (k i : ℕ) → k < 8 → i < getD beats k pastBeats .n → ByRule first beats (melodyOf s beats bars pool style .notes) (sungBefore s beats bars pool style k i .line .stream) k i (notesBefore beats k + i)
+  melody-told : (k i : ℕ) → k < 8 → i < getD beats k pastBeats .n → ByRule first beats (melodyOf s beats bars pool style .notes) (sungBefore s beats bars pool style k i .line .stream) k i (notesBefore beats k + i)
   unfolding melodyOf
   melody-told k i h = lanes-told 8 (omega arith) .1 k h i
 
@@ -251,7 +312,7 @@ module _ (s : NoiseStream) (h : Harmony) (tonal : Tonal h) (style : Style) (beat
   beats = songBeats s style
 
   -- as many notes as the rhythm has beats
-  pub lead-count : leadOf s h style beatS .count ≡ notesBefore beats 8
+  lead-count : leadOf s h style beatS .count ≡ notesBefore beats 8
   unfolding leadOf sungOf
   lead-count =
       let l = leadStyleOf style in
@@ -262,9 +323,37 @@ module _ (s : NoiseStream) (h : Harmony) (tonal : Tonal h) (style : Style) (beat
   unfolding sungOf
   sung-told = let l = leadStyleOf style in melody-told (rhythmOf s l .stream) beats (h .bars) (poolOf (h .scale)) l (song-ready s h tonal style)
 
+  -- the pitches of the lane are those of the melody
+  midi-same : (n : ℕ) → n ≤ leadOf s h style beatS .count → midiBefore (songStart h style) (leadOf s h style beatS .notes) n ≡ pitchBefore (songStart h style) (sungOf s h style .notes) n
+  unfolding midiBefore pitchBefore
+  midi-same zero a = refl
+  midi-same (suc n) a = keeps s h tonal style beatS n a .1
+
   -- note i of bar k has the role that the rule gives it
-  pub lead-told : (k i : ℕ) → k < 8 → i < getD beats k pastBeats .n → LeadTold s h style k i (getD (leadOf s h style beatS .notes) (notesBefore beats k + i) pastNote)
-  lead-told k i a b = record {
-    role = keeps s h tonal style beatS (notesBefore beats k + i) (omega (arith, lead-count, earlier-bar beats k i 8 a b)) .2;
-    rule = sung-told k i a b;
+  told-at : (k i : ℕ) → k < 8 → i < getD beats k pastBeats .n → ToldAt s h style (leadOf s h style beatS .notes) (notesBefore beats k + i)
+  told-at k i a b =
+      let n = notesBefore beats k + i in
+      let in-lane : n < leadOf s h style beatS .count = omega (arith, lead-count, earlier-bar beats k i 8 a b) in
+      let kept = keeps s h tonal style beatS n in-lane in
+      let rule = sung-told k i a b in
+      let bar = getD beats k pastBeats in
+      record {
+        bar = k;
+        place = i;
+        in-loop = a;
+        in-bar = b;
+        stands = refl;
+        of-bar = kept .0 ∙ rule .bar;
+        role =
+            kept .2 ∙ ap notedOf (rule .role)
+            ∙ rw (midi-same (n - 1) (omega arith), midi-same n (omega arith)) (ap notedOf (rule-said k bar i (headsIn beats) (pitchBefore (songStart h style) (sungOf s h style .notes) (n - 1)) (pitchBefore (songStart h style) (sungOf s h style .notes) n) (toneDrawn (songStream s h style k i))));
+      }
+
+  -- and every note of the lane is such a note
+  pub lead-told : LeadTold s h style (leadOf s h style beatS .notes) (leadOf s h style beatS .count)
+  lead-told = record {
+    all = lead-count;
+    each = λ n a.
+        let p = place-of beats 8 n (omega (arith, lead-count)) in
+        subst (ToldAt s h style (leadOf s h style beatS .notes)) (sym (p .stands)) (told-at (p .bar) (p .place) (p .in-loop) (p .in-bar));
   }

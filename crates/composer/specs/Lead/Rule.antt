@@ -1,21 +1,24 @@
--- Why each note of a melody has its role, told by the rhythm and by the notes before it: the rule of `melody`. Definitions only.
+-- Why each lead note has its role: the rule of `melody`, told by the rhythm, by the lead's own notes before it and by
+-- one draw. Bars, and the notes of a bar and of the lead, count from 0. Definitions only.
 use mathlib.Core.Path.{_≡_}
-use mathlib.Core.Bool.{Bool, cond}
+use mathlib.Core.Bool.{Bool, cond, _&&_, _||_}
 use mathlib.Core.List.{List}
-use Prim.Native.Nat.{ℕ, zero, suc, _+_, _-_, min}
+use Prim.Native.Nat.{ℕ, zero, suc, _+_, _-_, _<_, min}
+use lib.Dec.{eqb, ltb}
 use lib.ListN.{getD}
 use lib.Ieee.{nan, binary32, ofBits}
 use Rattle.streams.specs.Draw.{chanceOf}
 use Rattle.streams.specs.declared.stream.NoiseStream.{NoiseStream}
 use Rattle.composer.specs.Chord.{pastChord}
-use Rattle.composer.specs.Lead.{sungOf}
 use Rattle.composer.specs.Lead.Beats.{pastBeats}
 use Rattle.composer.specs.Lead.Ground.{groundOf}
-use Rattle.composer.specs.Lead.Line.{placeOf}
-use Rattle.composer.specs.Lead.Melody.{pastLead, barTo, startOf, nothingSung, barsTo}
+use Rattle.composer.specs.Lead.Line.{isStrongOf}
+use Rattle.composer.specs.Lead.Melody.{barTo, startOf, nothingSung, barsTo}
 use Rattle.composer.specs.Lead.Rhythm.{rhythmOf}
-use Rattle.composer.specs.Lead.Role.{notedOf, quotesOf, peaksOf, leaptOf}
+use Rattle.composer.specs.Lead.Role.{notedOf}
 use Rattle.composer.specs.Lead.Scale.{poolOf}
+use Rattle.composer.specs.Lead.Tones.{distanceOf}
+use Rattle.composer.specs.Note.{pastNote}
 use Rattle.composer.specs.Style.{leadStyleOf}
 use Rattle.composer.specs.declared.chord.Chord.{Chord}
 use Rattle.composer.specs.declared.harmony.Harmony.{Harmony}
@@ -23,21 +26,21 @@ use Rattle.composer.specs.declared.note.Note.{Note}
 use Rattle.composer.specs.declared.style.LeadStyle.{LeadStyle}
 use Rattle.composer.specs.declared.style.Style.{Style}
 use Rattle.composer.specs.declared.lead.beats.Beats.{Beats}
-use Rattle.composer.specs.declared.lead.line.Place.{Place}
-use Rattle.composer.specs.declared.lead.melody.LeadNote.{LeadNote}
 use Rattle.composer.specs.declared.lead.melody.Sung.{Sung}
 use Rattle.composer.specs.declared.lead.role.Role.{Role}
 use Rattle.composer.specs.declared.lead.role.Role.the-variants.{Quote, Close, Peak, Resolve, ChordTone, Passing}
 
--- the first that applies: bar 4 within the head and not last, the last note, bar 5's first, after a leap, on a strong beat, else by the draw
-unfoldable pub ruleOf : Place → ℕ → ℕ → ℕ → Bool → Role
-ruleOf p heads from prev tone =
-    cond (quotesOf p heads) Quote
-    (cond (p .last) Close
-    (cond (peaksOf p) Peak
-    (cond (leaptOf from prev) Resolve
-    (cond (p .strong) ChordTone
-    (cond tone ChordTone Passing)))))
+-- note i of the n notes of a bar; `heads` notes of bar 0 are its head, `from` and `prev` are the pitches two notes
+-- before and one before, and `tone` is what the draw says. The first that applies: bar 4 quotes the head, bar 7's last
+-- note closes, bar 5's first is the peak, a leap of more than four semitones is resolved, a strong beat has a chord
+-- tone, and on any other the draw decides
+abbrev pub ruleOf : (bar i n : ℕ) (strong : Bool) (heads from prev : ℕ) (tone : Bool) → Role
+ruleOf bar i n strong heads from prev tone =
+    cond (eqb bar 4 && ltb i heads) Quote
+    (cond (eqb bar 7 && eqb (i + 1) n) Close
+    (cond (eqb bar 5 && eqb i 0) Peak
+    (cond (ltb 4 (distanceOf from prev)) Resolve
+    (cond (strong || tone) ChordTone Passing))))
 
 -- how many notes the bars before bar k have
 unfoldable pub notesBefore : List Beats → ℕ → ℕ
@@ -48,21 +51,14 @@ notesBefore beats (suc k) = notesBefore beats k + getD beats k pastBeats .n
 abbrev pub headsIn : List Beats → ℕ
 headsIn beats = min 2 (getD beats 0 pastBeats .n)
 
--- the pitch before note n: that of the note before it, and before the first the one that the line starts from
-unfoldable pub pitchBefore : ℕ → List LeadNote → ℕ → ℕ
-pitchBefore start notes zero = start
-pitchBefore start notes (suc n) = getD notes n pastLead .note
+-- the pitch before lead note n: that of the note before it, and before the first the one that the line starts from
+unfoldable pub midiBefore : ℕ → List Note → ℕ → ℕ
+midiBefore start notes zero = start
+midiBefore start notes (suc n) = getD notes n pastNote .midi
 
 -- a draw with the chance 0.55
 abbrev pub toneDrawn : NoiseStream → Bool
 toneDrawn s = chanceOf s (ofBits binary32 0x3f0c_cccd) .value
-
--- note n of the melody is note i of bar k, and has its role by the rule; s is the stream as it was before the note
-pub record ByRule (start : ℕ) (beats : List Beats) (notes : List LeadNote) (s : NoiseStream) (k i n : ℕ) : Type 0 where
-  pub bar : getD notes n pastLead .bar ≡ k
-  pub beat : getD notes n pastLead .beat ≡ getD (getD beats k pastBeats .at) i nan
-  pub role : getD notes n pastLead .role
-      ≡ ruleOf (placeOf k (getD beats k pastBeats) i) (headsIn beats) (pitchBefore start notes (n - 1)) (pitchBefore start notes n) (toneDrawn s)
 
 -- the melody before note i of bar k
 abbrev pub sungBefore : NoiseStream → List Beats → List Chord → List Bool → LeadStyle → ℕ → ℕ → Sung
@@ -70,7 +66,8 @@ sungBefore s beats bars pool style k i =
     let start = startOf style (getD bars 0 pastChord) pool in
     barTo pool (groundOf style (getD bars k pastChord) pool) k (getD beats k pastBeats) (barsTo beats bars pool style (nothingSung start s) k) i
 
--- the rhythm of a song's lead
+-- ---- of a song, by its lead's stream and its harmony
+-- the rhythm of its lead
 abbrev pub songBeats : NoiseStream → Style → List Beats
 songBeats s style = rhythmOf s (leadStyleOf style) .bars
 
@@ -82,7 +79,19 @@ songStart h style = startOf (leadStyleOf style) (getD (h .bars) 0 pastChord) (po
 abbrev pub songStream : NoiseStream → Harmony → Style → ℕ → ℕ → NoiseStream
 songStream s h style k i = sungBefore (rhythmOf s (leadStyleOf style) .stream) (songBeats s style) (h .bars) (poolOf (h .scale)) (leadStyleOf style) k i .line .stream
 
--- note i of bar k of a song's lead, as it stands in the lane: it has the melody's role, and that by the rule
-pub record LeadTold (s : NoiseStream) (h : Harmony) (style : Style) (k i : ℕ) (x : Note) : Type 0 where
-  pub role : x .role ≡ notedOf (getD (sungOf s h style .notes) (notesBefore (songBeats s style) k + i) pastLead .role)
-  pub rule : ByRule (songStart h style) (songBeats s style) (sungOf s h style .notes) (songStream s h style k i) k i (notesBefore (songBeats s style) k + i)
+-- lead note n is note `place` of bar `bar`, and has its role by the rule
+pub record ToldAt (s : NoiseStream) (h : Harmony) (style : Style) (notes : List Note) (n : ℕ) : Type 0 where
+  pub bar : ℕ
+  pub place : ℕ
+  pub in-loop : bar < 8
+  pub in-bar : place < getD (songBeats s style) bar pastBeats .n
+  pub stands : n ≡ notesBefore (songBeats s style) bar + place
+  pub of-bar : getD notes n pastNote .bar ≡ bar
+  pub role : getD notes n pastNote .role
+      ≡ notedOf (ruleOf bar place (getD (songBeats s style) bar pastBeats .n) (isStrongOf (getD (getD (songBeats s style) bar pastBeats .at) place nan))
+      (headsIn (songBeats s style)) (midiBefore (songStart h style) notes (n - 1)) (midiBefore (songStart h style) notes n) (toneDrawn (songStream s h style bar place)))
+
+-- every note of a lead is told so, and it has as many as its rhythm
+pub record LeadTold (s : NoiseStream) (h : Harmony) (style : Style) (notes : List Note) (count : ℕ) : Type 0 where
+  pub all : count ≡ notesBefore (songBeats s style) 8
+  pub each : (n : ℕ) → n < count → ToldAt s h style notes n

@@ -11,7 +11,7 @@ const QUOTE_NOTES: usize = 2;
 
 const LAST_BAR: u8 = 7;
 
-// Note i of a bar: whether it is the melody's last, and whether its beat is strong.
+// Note i of a bar: whether it closes the loop, as the last note of bar 7, and whether its beat is strong.
 pub struct Place {
     pub bar: u8,
     pub i: usize,
@@ -36,7 +36,7 @@ fn is_strong(beat: f32) -> bool
     (f == 0.0) | (f == 0.75)
 }
 
-// Whether note i of n is the melody's last.
+// Whether note i of n is the last one of bar 7.
 fn is_last(bar: u8, i: usize, n: usize) -> bool
     requires { ⌜ i < 7 ⌝ }
     ensures { λ r. ⌜ r ≡ isLastOf bar i n ⌝ }
