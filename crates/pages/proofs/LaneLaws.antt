@@ -2,7 +2,7 @@
 -- the events of one bar stand together. Assumes nothing.
 use mathlib.Core.Path.{_≡_, refl, sym, ap, _∙_}
 use mathlib.Core.Bool.{Bool, true, false}
-use mathlib.Core.List.{List, [], _++_, map}
+use mathlib.Core.List.{List, [], _++_, map, map-map}
 use Prim.Native.Nat.{ℕ, _+_, _-_, _*_, _≤_, _<_}
 use native.Mathlib.Omega.{arith}
 use lib.Dec.{eqb, ltb}
@@ -49,6 +49,15 @@ note-bar Edition.Two n = refl
 pub hit-bar : (h : Hit) → barIn (hitBytes h) ≡ hitBar h
 unfolding hitBytes
 hit-bar h = refl
+
+-- ---- the editions
+-- edition 1 has the events of edition 2 without their roles; a hit is shorter than that
+pub events-without-roles : (s : Score) (lane : Lane) → map (take 14) (eventsOf Edition.Two s lane) ≡ eventsOf Edition.One s lane
+unfolding noteBytes soundBytes hitBytes
+events-without-roles s Lane.Lead = map-map (take 14) (noteBytes Edition.Two) (take (s .«lead_count») (s .lead))
+events-without-roles s Lane.Keys = map-map (take 14) (noteBytes Edition.Two) (take (s .«keys_count») (s .keys))
+events-without-roles s Lane.Hits = map-map (take 14) hitBytes (take (s .«hit_count») (s .hits))
+events-without-roles s Lane.Bass = map-map (take 14) (noteBytes Edition.Two) (take (s .«bass_count») (s .bass))
 
 -- ---- all of a lane's
 notes-wide : (edition : Edition) (ns : List Note) → All (λ e. length e ≡ noteWidth edition) (map (noteBytes edition) ns)

@@ -1,4 +1,5 @@
--- The roles on every page: the composer's promise of its notes, read where each note's last byte stands. Assumes nothing.
+-- The notes on every page, and the composer's promise of their roles, read where each note's last byte stands. Assumes
+-- nothing.
 use mathlib.Core.Path.{_≡_, subst}
 use Prim.Native.Nat.{ℕ, _<_}
 use native.Mathlib.Omega.{arith}
@@ -16,6 +17,7 @@ use Rattle.composer.proofs.form.Arranged.{arranged-promise}
 use Rattle.pages.specs.Demand3.{pageAt}
 use Rattle.pages.specs.Roles.{IsRole, RolesShown}
 use Rattle.pages.proofs.Demand3.{lead-read, keys-read, bass-read}
+use Rattle.pages.proofs.PageLaws.{composed-is}
 use Rattle.pages.proofs.ScoreLaws.{lead-role, keys-role, bass-role}
 
 module _ (style : Style) (seed b : ℕ) (p : Plays) (plays : playsAt (arrangeOf seed) b ≡ Gives p) where
@@ -45,6 +47,9 @@ module _ (style : Style) (seed b : ℕ) (p : Plays) (plays : playsAt (arrangeOf 
 
 pub roles-shown : (style : Style) (seed : ℕ) → RolesShown style seed
 roles-shown style seed = record {
+  lead-notes = rw (composed-is style seed) (lead-read style seed);
+  keys-notes = rw (composed-is style seed) (keys-read style seed);
+  bass-notes = rw (composed-is style seed) (bass-read style seed);
   lead = λ b h. let k = arranged-promise seed .found b h in lead-is style seed b (k .0) (k .1);
   keys = λ b h. let k = arranged-promise seed .found b h in keys-is style seed b (k .0) (k .1);
   bass = λ b h. let k = arranged-promise seed .found b h in bass-is style seed b (k .0) (k .1);

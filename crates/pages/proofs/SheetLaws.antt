@@ -1,4 +1,4 @@
--- The length of a sheet: by its counts, and at most 5,456 bytes, or 5,164 in edition 1, or 5,456 in edition 2. Assumes nothing.
+-- The length of a sheet: by its counts, and at most 5,164 bytes in edition 1, 5,456 in edition 2. Assumes nothing.
 use mathlib.Core.Path.{_≡_, ap, _∙_}
 use mathlib.Core.List.{List}
 use Prim.Native.Nat.{ℕ, zero, suc, _+_, _*_, _≤_, _<_}

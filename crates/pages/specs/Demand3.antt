@@ -48,7 +48,7 @@ IsNote tag page midi =
 -- ---- reading a sheet
 -- 0x0A, a byte for each song bar; a sheet has eleven fields
 abbrev pub playsIn : List ℕ → List ℕ
-playsIn sheet = bodyIn (sheetFields Edition.Two) 0x0a sheet
+playsIn sheet = bodyIn sheetFields 0x0a sheet
 
 -- bit 2 of song bar b's byte
 abbrev pub drumBit : List ℕ → ℕ → Bool

@@ -1,5 +1,4 @@
--- The two editions: all in which their sheets differ, and the numbers of a page, which is written in edition 2 alone.
--- Definitions only.
+-- The two editions: all in which their sheets differ. A page is of edition 2 alone. Definitions only.
 use mathlib.Core.List.{List, [], _∷_}
 use Prim.Native.Nat.{ℕ}
 use Rattle.pages.specs.Bytes.{field}
@@ -19,19 +18,19 @@ abbrev pub editionSize : Edition → ℕ
 editionSize Edition.One = 0
 editionSize Edition.Two = 4
 
--- how many fields a sheet has
-abbrev pub sheetFields : Edition → ℕ
-sheetFields Edition.One = 10
-sheetFields Edition.Two = 11
-
--- and how many bytes at most: every lane full, six classes, 64 bars
+-- how many bytes a sheet has at most: every lane full, six classes, 64 bars
 abbrev pub sheetMost : Edition → ℕ
 sheetMost Edition.One = 5164
 sheetMost Edition.Two = 5456
 
--- the same of a page: the edition's, chord, lead, keys, hits, bass; 7, 16 and 13 notes, and 14 hits
+-- ---- what is written now is of edition 2
+-- how many fields a sheet and a page have, their edition's among them
+abbrev pub sheetFields : ℕ
+sheetFields = 11
+
 abbrev pub pageFields : ℕ
 pageFields = 6
 
+-- how many bytes a page has at most: 7 notes of the lead, 16 of the keys and 13 of the bass, and 14 hits
 abbrev pub pageMost : ℕ
 pageMost = 703

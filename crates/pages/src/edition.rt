@@ -8,10 +8,8 @@ ghost use Rattle.pages.specs.Edition.{noteWidth, editionSize, editionFie
 use crate::put::put_head;
 use crate::put::put_u8;
 
-// The most bytes that a sheet and a page of edition 2 have: buffers of this length serve every seed.
+// The most bytes that a sheet has, in edition 2: a buffer of this length serves every seed.
 pub const SHEET_MOST: usize = 5456;
-
-pub const PAGE_MOST: usize = 703;
 
 pub enum Edition {
     One,
