@@ -1,5 +1,5 @@
--- Whatever lengths its fields may have each, in either edition, a song of zeros but for its roles has them all: none of
--- the ten depends on another. Assumes nothing.
+-- Whatever lengths its fields may have each, in either edition, a song of zeros but for its roles has them all: none
+-- of the ten depends on another. Assumes nothing.
 use mathlib.Core.Path.{_≡_, refl, sym, ap, _∙_, subst}
 use mathlib.Core.Bool.{Bool, true, false, cond}
 use mathlib.Core.List.{List}

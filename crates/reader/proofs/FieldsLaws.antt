@@ -1,4 +1,5 @@
--- Bytes are formed exactly if they are the fields of an edition in their order, each as long as some value's field. Assumes nothing.
+-- Bytes are formed exactly if they are the fields of an edition in their order, each as long as some value's field.
+-- Assumes nothing.
 use mathlib.Core.Path.{_≡_, refl, sym, ap, _∙_}
 use mathlib.Core.Bool.{true}
 use mathlib.Core.List.{List, [], _∷_, _++_, append-assoc, append-nil}

@@ -1,5 +1,5 @@
--- The sheet of a value is its edition's fields, of lengths that fit, its codes are known, and it is read back as the value.
--- Assumes nothing.
+-- The sheet of a value is its edition's fields, of lengths that fit, its codes are known, and it is read back as the
+-- value. Assumes nothing.
 use mathlib.Core.Path.{_≡_, refl}
 use mathlib.Core.Bool.{Bool, true, false, not, _&&_}
 use mathlib.Core.List.{List, _++_}

@@ -5,6 +5,7 @@ pub mod BarsLaws
 pub mod BlankLaws
 pub mod CodeLaws
 pub mod ComposedLaws
+pub mod EditionLaws
 pub mod EventLaws
 pub mod FieldsLaws
 pub mod FitLaws

@@ -1,5 +1,6 @@
--- A sheet with no hit is taken, and it is no seed's: every composed song has a hit in each loop bar. Assumes nothing.
-use mathlib.Core.Path.{_≡_, ap, _∙_}
+-- A sheet with no hit is taken, in either edition, and it is no seed's: every composed song has a hit in each loop
+-- bar. Assumes nothing.
+use mathlib.Core.Path.{_≡_, refl, ap, _∙_}
 use mathlib.Core.List.{List}
 use Prim.Native.Nat.{ℕ, _*_, _<_}
 use native.Mathlib.Omega.{arith}
@@ -9,14 +10,16 @@ use lib.Ieee.{toBits, ofBits}
 use Rattle.laws.specs.Lists.{allOf, joined}
 use Rattle.laws.proofs.Bools.{holds}
 use Rattle.laws.proofs.Lists.{all-at}
+use Rattle.composer.specs.Compose.{composedOf}
+use Rattle.composer.specs.declared.score.Score.{Score}
 use Rattle.composer.specs.declared.style.Style.{Style}
 use Rattle.composer.proofs.ComposeLaws.{song-promise}
 use Rattle.pages.specs.Bytes.{byteAt, field}
 use Rattle.pages.specs.Sheet.{songBytes, lanesBytes, formBytes, sheetBytes}
 use Rattle.pages.specs.declared.edition.Edition.{Edition}
-use Rattle.reader.specs.Composed.{composedSong}
+use Rattle.reader.specs.Composed.{toldIn, composedSong}
 use Rattle.reader.specs.Layout.{sizeAt}
-use Rattle.reader.specs.Promise.{NoSeed}
+use Rattle.reader.specs.Promise.{Reads, NoSeed}
 use Rattle.reader.specs.Song.{sheetOf}
 use Rattle.reader.specs.Value.{Value}
 use Rattle.reader.specs.declared.song.Song.{Song}
@@ -31,29 +34,42 @@ use Rattle.reader.proofs.ValueLaws.{value-valid, value-typed, value-sto
 hits-bytes : (v : Song) → Value v → sizeAt (sheetOf v) 6 ≡ 10 * v .score .«hit_count»
 hits-bytes v p = ap (λ (b : List ℕ). sizeAt b 6) (as-fields v) ∙ hits-size v (value-stored v p)
 
--- a seed's has some
-seed-hits : (style : Style) (seed : ℕ) → 0 < sizeAt (sheetOf (composedSong style seed)) 6
-seed-hits style seed =
-    omega (arith, hits-bytes (composedSong style seed) (composed-value style seed), song-promise style seed .score .hit-in-each 0 (omega arith) .until)
+-- an edition tells all hits
+hits-kept : (edition : Edition) (s : Score) → toldIn edition s .«hit_count» ≡ s .«hit_count»
+hits-kept Edition.One s = refl
+hits-kept Edition.Two s = refl
 
--- ---- the shortest song of zeros has none
-abbrev bare : Song
-bare = blankSong Edition.Two (shortest Edition.Two)
+module _ (edition : Edition) where
+  -- a seed's has some
+  seed-hits : (style : Style) (seed : ℕ) → 0 < sizeAt (sheetOf (composedSong edition style seed)) 6
+  seed-hits style seed =
+      omega (arith, hits-bytes (composedSong edition style seed) (composed-value style seed edition), hits-kept edition (composedOf style seed .score), song-promise style seed .score .hit-in-each 0 (omega arith) .until)
 
-bare-value : Value bare
-bare-value = blank-value Edition.Two (shortest Edition.Two) (shortest-fits Edition.Two)
+  -- ---- the shortest song of zeros has none
+  abbrev bare : Song
+  bare = blankSong edition (shortest edition)
 
-abbrev bytes : List ℕ
-bytes = sheetOf bare
+  bare-value : Value bare
+  bare-value = blank-value edition (shortest edition) (shortest-fits edition)
 
-bytes-few : T (allOf (λ b. ltb b 256) bytes)
+  bare-reads : Reads (sheetOf bare) bare
+  bare-reads = sheet-back bare (value-typed bare bare-value (lit< tt)) (value-valid bare bare-value)
+
+  bare-other : (style : Style) (seed : ℕ) → sheetOf (composedSong edition style seed) ≡ sheetOf bare → ⊥
+  bare-other style seed e = omega (arith, seed-hits style seed, ap (λ (b : List ℕ). sizeAt b 6) e, hits-bytes bare bare-value)
+
+-- its bytes, computed
+bytes-few : (edition : Edition) → T (allOf (λ b. ltb b 256) (sheetOf (bare edition)))
 unfolding allOf sheetBytes songBytes lanesBytes formBytes joined field ofBits toBits
-bytes-few = tt
+bytes-few Edition.One = tt
+bytes-few Edition.Two = tt
 
-pub no-seed : NoSeed
-no-seed = record {
-  bytes = bytes;
-  octets = λ i. ltb-true (byteAt bytes i) 256 (holds (ltb (byteAt bytes i) 256) (all-at (λ b. ltb b 256) 0 tt bytes bytes-few i));
-  taken = record { v = bare; reads = sheet-back bare (value-typed bare bare-value (lit< tt)) (value-valid bare bare-value) };
-  other = λ style seed h e. omega (arith, seed-hits style seed, ap (λ (b : List ℕ). sizeAt b 6) e, hits-bytes bare bare-value);
-}
+pub no-seed : (edition : Edition) → NoSeed edition
+no-seed edition =
+    let bytes = sheetOf (bare edition) in
+    record {
+      bytes = bytes;
+      octets = λ i. ltb-true (byteAt bytes i) 256 (holds (ltb (byteAt bytes i) 256) (all-at (λ b. ltb b 256) 0 tt bytes (bytes-few edition) i));
+      taken = record { v = bare edition; reads = bare-reads edition };
+      other = λ style seed h. bare-other edition style seed;
+    }

@@ -5,12 +5,8 @@ use mathlib.Core.List.{List}
 use Prim.Native.Nat.{ℕ}
 use native.Mathlib.Omega.{arith}
 use Rattle.composer.specs.Refusal.{Answer, Gives, Refuses, answerBy}
-use Rattle.composer.specs.Style.{styleNumberOf}
 use Rattle.composer.specs.declared.refusal.Outcome.{Outcome}
-use Rattle.composer.specs.declared.style.Style.{Style}
-use Rattle.composer.proofs.ComposeLaws.{composed-done}
 use Rattle.pages.specs.Answer.{Asked, Writes, bytesOf, askedBy, CallAnswers}
-use Rattle.pages.specs.Sheet.{sheetIn, sheetAsked}
 use Rattle.pages.proofs.AnswerLaws.{refused, call-answers, room-answers}
 use Rattle.reader.specs.Codes.{coded}
 use Rattle.reader.specs.Composed.{composedSong}
@@ -24,7 +20,7 @@ use Rattle.reader.specs.declared.song.Song.{Song}
 use Rattle.reader.proofs.AgainLaws.{sheet-again}
 use Rattle.reader.proofs.ArrayLaws.{typed-read}
 use Rattle.reader.proofs.AskedLaws.{asked-valid, asked-other, writes-valid, Passes, passes, passes-read, read-song, read-valid}
-use Rattle.reader.proofs.ComposedLaws.{composed-valid, composed-typed}
+use Rattle.reader.proofs.ComposedLaws.{composed-valid, composed-typed, seed-asked}
 use Rattle.reader.proofs.FormedLaws.{sheet-formed, song-read}
 use Rattle.reader.proofs.KnownLaws.{sheet-coded}
 use Rattle.reader.proofs.TestedLaws.{valid-told, tested-value}
@@ -74,12 +70,6 @@ again v bytes octets e =
       asked = asked-valid v ok ∙ ap (λ (x : Song). Writes (sheetOf x)) (sym (t .1)) ∙ ap Writes (read-bytes bytes octets (t .0));
     }
 
--- ---- the sheets of seeds
-seed-asked : (style : Style) (seed : ℕ) → sheetAsked (styleNumberOf style) seed ≡ Writes (sheetOf (composedSong style seed))
-unfolding sheetIn
-seed-asked Style.Hiphop seed = rw (composed-done Style.Hiphop seed)
-seed-asked Style.Sleep seed = rw (composed-done Style.Sleep seed)
-
 pub reader-promise : ReaderPromise
 reader-promise = record {
   back = back;
@@ -88,7 +78,7 @@ reader-promise = record {
     λ t. record { v = t .v; makes = again (t .v) bytes octets (t .reads) },
     λ m. record { v = m .v; reads = back (m .v) bytes (m .makes) },
   );
-  sheets = λ style seed h. (seed-asked style seed, sheet-back (composedSong style seed) (composed-typed style seed h) (composed-valid style seed));
+  sheets = λ edition style seed h. (seed-asked style seed edition, sheet-back (composedSong edition style seed) (composed-typed style seed edition h) (composed-valid style seed edition));
 }
 
 -- ---- in numbers

@@ -1,5 +1,5 @@
--- The codes of a sheet: what each names, and which there are; Within.antt has the ranges of all other numbers. A code
--- that nothing has is read as some code, and its sheet is refused. Definitions only.
+-- The codes of a sheet: what each names, and which there are; Within.antt has the ranges of roles and of all numbers.
+-- A code that nothing has is read as some code, and its sheet is refused. Definitions only.
 use mathlib.Core.Bool.{Bool, _&&_, _||_, cond}
 use mathlib.Core.List.{List}
 use Prim.Native.Nat.{ℕ, _+_, _*_, _/_, _%_}

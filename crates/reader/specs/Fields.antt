@@ -9,8 +9,8 @@ use Rattle.pages.specs.Edition.{editionField}
 use Rattle.pages.specs.declared.edition.Edition.{Edition}
 use Rattle.reader.specs.Lengths.{Had}
 
--- the bytes are, in some edition, its own field, then ten fields with tags 1 to 10 in their order and nothing else, each
--- as long as some value's field in that edition
+-- the bytes are, in some edition, its own field, then ten fields with tags 1 to 10 in their order and nothing else,
+-- each as long as some value's field in that edition
 pub record TenFields (bytes : List ℕ) : Type 0 where
   pub edition : Edition
   pub body : ℕ → List ℕ

@@ -1,4 +1,5 @@
--- Which edition a sheet is of, where its fields stand, and whether they are those that some value has. Definitions only.
+-- Which edition a sheet is of, where its fields stand, and whether they are those that some value has. Definitions
+-- only.
 use mathlib.Core.Bool.{Bool, true, not, _&&_, cond}
 use mathlib.Core.List.{List, [], _∷_}
 use Prim.Native.Nat.{ℕ, zero, suc, _+_, _/_, _%_}

@@ -1,22 +1,24 @@
 -- What reading and writing promise each other, and what each call answers in numbers. Definitions only.
 use mathlib.Core.Path.{_≡_}
 use mathlib.Core.Bool.{true, false, _&&_}
-use mathlib.Core.List.{List, _++_}
+use mathlib.Core.List.{List, [], _∷_, _++_}
 use Prim.Native.Nat.{ℕ, _^_, _≤_, _<_}
-use lib.ListN.{length, drop}
+use lib.ListN.{length, getD, take, drop}
+use Rattle.composer.specs.Note.{pastNote}
 use Rattle.composer.specs.Refusal.{Gives, Refuses}
 use Rattle.composer.specs.Style.{styleNumberOf}
 use Rattle.composer.specs.declared.style.Style.{Style}
 use Rattle.pages.specs.Answer.{Writes, CallAnswers}
 use Rattle.pages.specs.Bytes.{byteAt}
-use Rattle.pages.specs.Sheet.{sheetAsked}
+use Rattle.pages.specs.Sheet.{sheetIn}
+use Rattle.pages.specs.declared.edition.Edition.{Edition}
 use Rattle.reader.specs.Codes.{coded}
 use Rattle.reader.specs.Composed.{composedSong}
 use Rattle.reader.specs.Fields.{TenFields}
 use Rattle.reader.specs.Layout.{formed}
 use Rattle.reader.specs.Read.{readOf, readAnswered, writeAsked, rereadAsked}
 use Rattle.reader.specs.Song.{songIn, sheetOf}
-use Rattle.reader.specs.Value.{valid, Typed, Value}
+use Rattle.reader.specs.Value.{valid, Typed, RoleIn, Value}
 use Rattle.reader.specs.Within.{within}
 use Rattle.reader.specs.declared.song.Song.{Song}
 
@@ -55,9 +57,9 @@ pub record ReaderPromise : Type 0 where
   pub again : (v : Song) (bytes : List ℕ) → Octets bytes → Reads bytes v → Makes v bytes
   -- the reader takes exactly the bytes that the writer makes of some value
   pub exactly : (bytes : List ℕ) → Octets bytes → (Taken bytes → Made bytes) × (Made bytes → Taken bytes)
-  -- the sheet of every seed, in both styles, is taken and gives its song and form
-  pub sheets : (style : Style) (seed : ℕ) → seed < 2 ^ 64
-      → (sheetAsked (styleNumberOf style) seed ≡ Writes (sheetOf (composedSong style seed))) × Reads (sheetOf (composedSong style seed)) (composedSong style seed)
+  -- the sheet of every seed, in both styles and both editions, is taken and gives its song and form
+  pub sheets : (edition : Edition) (style : Style) (seed : ℕ) → seed < 2 ^ 64
+      → (sheetIn edition (styleNumberOf style) seed ≡ Writes (sheetOf (composedSong edition style seed))) × Reads (sheetOf (composedSong edition style seed)) (composedSong edition style seed)
 
 -- ---- which number: 7 for the fields, whatever their values, and only then 8
 pub record ReadAnswers (bytes : List ℕ) : Type 0 where
@@ -71,12 +73,28 @@ pub record ReadTells (bytes : List ℕ) : Type 0 where
   pub values : TenFields bytes → (Made bytes → ⊥) → readAnswered (readOf bytes) ≡ Refuses 8
   pub given : (m : Made bytes) → Reads bytes (m .v)
 
+-- ---- the editions
+-- every note in use has a role that its lane has there
+pub record RolesIn (v : Song) : Type 0 where
+  pub lead : (i : ℕ) → i < v .score .«lead_count» → RoleIn (v .edition) true (getD (v .score .lead) i pastNote)
+  pub keys : (i : ℕ) → i < v .score .«keys_count» → RoleIn (v .edition) false (getD (v .score .keys) i pastNote)
+  pub bass : (i : ℕ) → i < v .score .«bass_count» → RoleIn (v .edition) false (getD (v .score .bass) i pastNote)
+
+pub record EditionTells (bytes : List ℕ) : Type 0 where
+  -- what is read says which it is: edition 2 begins with 0x00, length 1, body 2, and edition 1 with 0x01
+  pub one : (v : Song) → Reads bytes v → v .edition ≡ Edition.One → byteAt bytes 0 ≡ 1
+  pub two : (v : Song) → Reads bytes v → v .edition ≡ Edition.Two → take 4 bytes ≡ 0 ∷ 0 ∷ 1 ∷ 2 ∷ []
+  -- a 0x00 with another length or body is 7
+  pub other : byteAt bytes 0 ≡ 0 → (take 4 bytes ≡ 0 ∷ 0 ∷ 1 ∷ 2 ∷ [] → ⊥) → readAnswered (readOf bytes) ≡ Refuses 7
+  -- and its roles are the edition's
+  pub roles : (v : Song) → Reads bytes v → RolesIn v
+
 -- ---- the reader does not compose: some bytes are taken that are no seed's sheet, in either style
-pub record NoSeed : Type 0 where
+pub record NoSeed (edition : Edition) : Type 0 where
   pub bytes : List ℕ
   pub octets : Octets bytes
   pub taken : Taken bytes
-  pub other : (style : Style) (seed : ℕ) → seed < 2 ^ 64 → sheetOf (composedSong style seed) ≡ bytes → ⊥
+  pub other : (style : Style) (seed : ℕ) → seed < 2 ^ 64 → sheetOf (composedSong edition style seed) ≡ bytes → ⊥
 
 -- ---- the writer, lent the buffer b: 4, then 2
 pub record WriteAnswers (v : Song) (b : List ℕ) : Type 0 where

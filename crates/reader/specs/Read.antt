@@ -33,8 +33,8 @@ noSong = record {
 abbrev pub readRefused : Refusal → Read
 readRefused r = record { outcome = Outcome.Refused r; song = noSong }
 
--- the song that the bytes name: 7 if they are not the fields of an edition, and only then 8 if a code is unknown or a value out of
--- range, the song's own length among them
+-- the song that the bytes name: 7 if they are not the fields of an edition, and only then 8 if a code is unknown or a
+-- value out of range, the song's own length among them
 unfoldable pub readOf : List ℕ → Read
 readOf bytes =
     cond

@@ -66,7 +66,8 @@ pub record Padded {A : Type 0} (P : A → Type 0) (d z : A) (cap : ℕ) (xs : Li
 abbrev pub Any : {A : Type 0} → A → Type 0
 Any x = Unit
 
--- in edition 2 the lead's notes have one of its six roles, and all others that of keys and bass; in edition 1 all have it
+-- in edition 2 the lead's notes have one of its six roles, and all others that of keys and bass; in edition 1 all have
+-- it
 abbrev pub RoleIn : Edition → Bool → Note → Type 0
 RoleIn Edition.One leads x = Backs x
 RoleIn Edition.Two true x = Leads x

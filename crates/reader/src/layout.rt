@@ -93,7 +93,8 @@ fn is_led(bytes: &[u8], edition: Edition) -> bool
     }
 }
 
-// Whether the bytes are the edition's own field and ten fields in order, each of a length that some value's has, and nothing else.
+// Whether the bytes are the edition's own field and ten fields in order, each of a length that some value's has, and
+// nothing else.
 pub(crate) fn is_formed(bytes: &[u8], l: Layout) -> bool
     requires { ⌜ l ≡ layoutOf (now bytes) ⌝ }
     ensures { λ r. ⌜ r ≡ formed (now (bytes .entry)) ⌝ }

@@ -52,8 +52,8 @@ fn refused(r: Refusal) -> Read
     }
 }
 
-// How reading goes: bytes that are not the fields of an edition in order, each of a length that some value has there, are refused
-// with 7; only then an unknown code, a value out of range or a song of another length with 8.
+// How reading goes: bytes that are not the fields of an edition in order, each of a length that some value has there,
+// are refused with 7; only then an unknown code, a value out of range or a song of another length with 8.
 pub(crate) fn outcome_of(bytes: &[u8], l: Layout) -> Outcome
     requires { ⌜ l ≡ layoutOf (now bytes) ⌝ }
     ensures { λ r. ⌜ r ≡ readOf (now (bytes .entry)) .outcome ⌝ }

@@ -32,9 +32,10 @@ fn song_into(v: Song, buf: &mut [u8]) -> Written
     sheet_into(edition, v.seed, score, scale, form, buf)
 }
 
-// The sheet of a song, in its edition, from the buffer's first byte on, and its length; what lies beyond stays. A song that no sheet
-// names is refused with 4, then a buffer that is shorter than its sheet with 2; a refusal writes nothing. Whatever the
-// song, it has what the code's types say: what the theorem that a written song is read back asks of a value.
+// The sheet of a song, in its edition, from the buffer's first byte on, and its length; what lies beyond stays. A song
+// that no sheet names is refused with 4, then a buffer that is shorter than its sheet with 2; a refusal writes
+// nothing. Whatever the song, it has what the code's types say: what the theorem that a written song is read back asks
+// of a value.
 pub fn write(v: Song, buf: &mut [u8]) -> Written
     ensures { λ r. ⌜ r ≡ writtenOf (length (now (buf .entry))) (writeAsked v) ⌝ }
     ensures { λ r. ⌜ now (buf .exit) ≡ bufferOf (now (buf .entry)) (writeAsked v) ⌝ }

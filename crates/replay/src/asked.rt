@@ -4,7 +4,6 @@ use composer::refusal::Outcome;
 use halls::list::hall_list;
 use pages::answer::Written;
 use pages::edition::Edition;
-use pages::edition::PAGE_MOST;
 use pages::edition::SHEET_MOST;
 use pages::page::bar_page;
 use pages::sheet::sheet;
@@ -137,7 +136,8 @@ fn sheet_fold(style: u8, seed: u64) -> u64 {
 }
 
 fn page_fold(style: u8, seed: u64, bar: u64) -> u64 {
-    let mut buf = [0u8; PAGE_MOST];
+    // the longest page
+    let mut buf = [0u8; 703];
     let written = bar_page(style, seed, bar, &mut buf);
     written_fold(written, &buf)
 }

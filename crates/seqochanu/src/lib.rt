@@ -60,7 +60,8 @@ pub extern "C" fn seqochanu_hall_list(hall: u64, count: u64, buf: &mut [u8]) -> 
 
 // Reads a sheet, writes what was read again from the buffer's first byte on and answers its length; what lies beyond
 // stays. What is written are the sheet's own bytes, in the edition that it is of. Bytes that are not the fields of a
-// sheet of either edition are -7, only then values out of range -8, then a buffer that is shorter than the sheet -2; none of them writes anything.
+// sheet of either edition are -7, only then values out of range -8, then a buffer that is shorter than the sheet -2;
+// none of them writes anything.
 #[no_mangle]
 pub extern "C" fn seqochanu_reread(sheet: &[u8], buf: &mut [u8]) -> i64
     ensures { λ r. ⌜ r ≡ codeOf (writtenOf (length (now (buf .entry))) (rereadAsked (now (sheet .entry)))) ⌝ }
