@@ -11,7 +11,8 @@
  *   -6  the count is outside 1 to 4,096
  *   -7  a field of the sheet is missing, cut off, misplaced or trailing, or has a length that no sheet has there, or
  *       0x00 has another body than 2
- *   -8  a value of the sheet is out of range, or its field 0x0A has another length than the song
+ *   -8  a value of the sheet is out of range, a note's role among them, or its field 0x0A has another length than
+ *       the song
  *
  * Sheets and pages are written in edition 2: they begin with the field 0x00, and each note ends with its role. A sheet
  * whose first byte is not 0x00 is of edition 1, whose notes have no roles. It is still read. docs/FORMAT.md has both.

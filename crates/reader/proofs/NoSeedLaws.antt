@@ -39,13 +39,13 @@ hits-kept : (edition : Edition) (s : Score) → toldIn edition s .«hit_count» 
 hits-kept Edition.One s = refl
 hits-kept Edition.Two s = refl
 
-module _ (edition : Edition) where
-  -- a seed's has some
-  seed-hits : (style : Style) (seed : ℕ) → 0 < sizeAt (sheetOf (composedSong edition style seed)) 6
-  seed-hits style seed =
-      omega (arith, hits-bytes (composedSong edition style seed) (composed-value style seed edition), hits-kept edition (composedOf style seed .score), song-promise style seed .score .hit-in-each 0 (omega arith) .until)
+-- a seed's has some
+seed-hits : (edition : Edition) (style : Style) (seed : ℕ) → 0 < sizeAt (sheetOf (composedSong edition style seed)) 6
+seed-hits edition style seed =
+    omega (arith, hits-bytes (composedSong edition style seed) (composed-value style seed edition), hits-kept edition (composedOf style seed .score), song-promise style seed .score .hit-in-each 0 (omega arith) .until)
 
-  -- ---- the shortest song of zeros has none
+-- ---- the shortest song of zeros has none
+module _ (edition : Edition) where
   abbrev bare : Song
   bare = blankSong edition (shortest edition)
 
@@ -55,8 +55,8 @@ module _ (edition : Edition) where
   bare-reads : Reads (sheetOf bare) bare
   bare-reads = sheet-back bare (value-typed bare bare-value (lit< tt)) (value-valid bare bare-value)
 
-  bare-other : (style : Style) (seed : ℕ) → sheetOf (composedSong edition style seed) ≡ sheetOf bare → ⊥
-  bare-other style seed e = omega (arith, seed-hits style seed, ap (λ (b : List ℕ). sizeAt b 6) e, hits-bytes bare bare-value)
+  bare-other : (e : Edition) (style : Style) (seed : ℕ) → sheetOf (composedSong e style seed) ≡ sheetOf bare → ⊥
+  bare-other e style seed same = omega (arith, seed-hits e style seed, ap (λ (b : List ℕ). sizeAt b 6) same, hits-bytes bare bare-value)
 
 -- its bytes, computed
 bytes-few : (edition : Edition) → T (allOf (λ b. ltb b 256) (sheetOf (bare edition)))
@@ -70,6 +70,8 @@ no-seed edition =
     record {
       bytes = bytes;
       octets = λ i. ltb-true (byteAt bytes i) 256 (holds (ltb (byteAt bytes i) 256) (all-at (λ b. ltb b 256) 0 tt bytes (bytes-few edition) i));
-      taken = record { v = bare edition; reads = bare-reads edition };
-      other = λ style seed h. bare-other edition style seed;
+      v = bare edition;
+      of = refl;
+      reads = bare-reads edition;
+      other = λ e style seed h. bare-other edition e style seed;
     }

@@ -89,12 +89,15 @@ pub record EditionTells (bytes : List ℕ) : Type 0 where
   -- and its roles are the edition's
   pub roles : (v : Song) → Reads bytes v → RolesIn v
 
--- ---- the reader does not compose: some bytes are taken that are no seed's sheet, in either style
+-- ---- the reader does not compose: some bytes of an edition are taken that are no seed's sheet, in neither edition and
+-- neither style
 pub record NoSeed (edition : Edition) : Type 0 where
   pub bytes : List ℕ
   pub octets : Octets bytes
-  pub taken : Taken bytes
-  pub other : (style : Style) (seed : ℕ) → seed < 2 ^ 64 → sheetOf (composedSong edition style seed) ≡ bytes → ⊥
+  pub v : Song
+  pub of : v .edition ≡ edition
+  pub reads : Reads bytes v
+  pub other : (e : Edition) (style : Style) (seed : ℕ) → seed < 2 ^ 64 → sheetOf (composedSong e style seed) ≡ bytes → ⊥
 
 -- ---- the writer, lent the buffer b: 4, then 2
 pub record WriteAnswers (v : Song) (b : List ℕ) : Type 0 where
