@@ -284,9 +284,9 @@ pub fn sheet_in(edition: Edition, style: u8, seed: u64, buf: &mut [u8]) -> Writt
     }
 }
 
-// The sheet of a seed's song in style 0 or 1, from the buffer's first byte on, and its length; what lies
-// beyond stays. Any other style is refused with 1, then a buffer that is shorter than this sheet with 2;
-// a refusal writes nothing.
+// The sheet of a seed's song in style 0 or 1, in edition 2, from the buffer's first byte on, and its length; what lies
+// beyond stays. Any other style is refused with 1, then a buffer that is shorter than this sheet with 2; a refusal
+// writes nothing.
 pub fn sheet(style: u8, seed: u64, buf: &mut [u8]) -> Written
     ensures { λ r. ⌜ r ≡ writtenOf (length (now (buf .entry))) (sheetAsked style seed) ⌝ }
     ensures { λ r. ⌜ now (buf .exit) ≡ bufferOf (now (buf .entry)) (sheetAsked style seed) ⌝ }
