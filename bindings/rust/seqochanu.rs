@@ -1,5 +1,6 @@
 //! Sheets and bar pages of songs, sheets read back, and lists of a hall's papers: a safe wrapper of
-//! include/seqochanu.h. What stands on a sheet is a `Sheet` (sheet.rs).
+//! include/seqochanu.h. What stands on a sheet is a `Sheet` (sheet.rs), and how it stands there goes by its `Edition`
+//! (edition.rs).
 //!
 //! The C functions ask that the buffer is not NULL, that its bytes are set and may be read and written, and that
 //! nothing else uses them during the call. A `&mut [u8]` is all of that, an empty one too, and a `&[u8]` beside it is
@@ -8,11 +9,15 @@
 use std::error::Error;
 use std::fmt;
 
-// where this file is a module of a program, the path finds the other beside it, and the program may use a part of this
+// where this file is a module of a program, the paths find the others beside it, and it may use a part of this
+#[path = "edition.rs"]
+mod edition;
 #[path = "sheet.rs"]
 mod sheet;
 #[allow(unused_imports)]
-pub use sheet::{Drum, Edition, Ending, EndingKind, Form, Hit, Note, Plays, Role, Sheet, Voice};
+pub use edition::Edition;
+#[allow(unused_imports)]
+pub use sheet::{Drum, Ending, EndingKind, Form, Hit, Note, Plays, Role, Sheet, Voice};
 
 /// The C functions as they are declared in include/seqochanu.h.
 pub mod raw {
