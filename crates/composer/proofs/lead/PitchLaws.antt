@@ -10,7 +10,6 @@ use borrow.Author.Tests.{ltb-true}
 use lib.Dec.{T, ltb, eqb}
 use lib.ListN.{getD, length, set, length-set}
 use lib.Seq.{getD-set-same, getD-set-other}
-use lib.Ieee.{ofBits, binary32}
 use Rattle.laws.proofs.Bools.{cond-by}
 use Rattle.streams.specs.Draw.{pickOf, chanceOf}
 use Rattle.streams.specs.declared.stream.NoiseStream.{NoiseStream}
@@ -19,7 +18,7 @@ use Rattle.streams.proofs.DrawLaws.{pick-lt}
 use Rattle.composer.specs.Lead.Scale.{fitsOf, roomOf, walkOf, scaleStepOf}
 use Rattle.composer.specs.Lead.Tones.{listed, distanceOf, nearOf}
 use Rattle.composer.specs.Lead.Line.{opensLineOf, carriedOf}
-use Rattle.composer.specs.Lead.Role.{quotesOf, peaksOf, leaptOf, chosenOf, chanceRoleOf, roleOf}
+use Rattle.composer.specs.Lead.Role.{quotesOf, peaksOf, leaptOf, toneChance, chosenOf, chanceRoleOf, roleOf}
 use Rattle.composer.specs.Lead.Ground.{tonesForOf}
 use Rattle.composer.specs.Lead.Pitch.{heldOf, peakNoteOf, chordNoteOf, passingNoteOf, pitchOf}
 use Rattle.composer.specs.Lead.Melody.{stepOf}
@@ -64,7 +63,7 @@ role-quotes l p =
     by-cases false false true d e h = tt
     by-cases false false false true e h = tt
     by-cases false false false false true h = tt
-    by-cases false false false false false h = by-chance (chanceOf (l .stream) (ofBits binary32 0x3f0c_cccd) .value) (chanceOf (l .stream) (ofBits binary32 0x3f0c_cccd) .stream)
+    by-cases false false false false false h = by-chance (chanceOf (l .stream) toneChance .value) (chanceOf (l .stream) toneChance .stream)
 
 -- ---- the pitch
 module _ (pool : List Bool) (g : Ground) (sound : Sound pool g) where

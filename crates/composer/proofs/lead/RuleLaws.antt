@@ -11,8 +11,10 @@ use borrow.Author.Tests.{eqb-true, ltb-true, ltb-false, ne-eqb}
 use lib.Dec.{eqb, ltb, eqb·suc-zero}
 use lib.ListN.{getD, set, length}
 use lib.Seq.{getD-set-same, getD-set-other}
-use lib.Ieee.{Float, nan, binary32, ofBits}
+use lib.Ieee.{Float, nan}
+use Rattle.laws.specs.Sums.{sumTo}
 use Rattle.laws.proofs.Lanes.{Grown}
+use Rattle.laws.proofs.Sums.{sum-within, sum-part}
 use Rattle.streams.specs.Draw.{chanceOf}
 use Rattle.streams.specs.declared.stream.NoiseStream.{NoiseStream}
 use Rattle.composer.specs.Chord.{pastChord}
@@ -23,8 +25,8 @@ use Rattle.composer.specs.Lead.Ground.{groundOf}
 use Rattle.composer.specs.Lead.Line.{isStrongOf, placeOf, headsOf, carriedOf}
 use Rattle.composer.specs.Lead.Melody.{pastLead, stepOf, firstSungOf, singOf, barTo, startOf, nothingSung, barsTo, melodyOf}
 use Rattle.composer.specs.Lead.Rhythm.{rhythmOf}
-use Rattle.composer.specs.Lead.Role.{notedOf, quotesOf, peaksOf, leaptOf, chosenOf, chanceRoleOf, roleOf}
-use Rattle.composer.specs.Lead.Rule.{ruleOf, notesBefore, headsIn, midiBefore, toneDrawn, sungBefore, songBeats, songStart, songStream, ToldAt, LeadTold}
+use Rattle.composer.specs.Lead.Role.{notedOf, quotesOf, peaksOf, leaptOf, toneChance, chosenOf, chanceRoleOf, roleOf}
+use Rattle.composer.specs.Lead.Rule.{ruleOf, notesOfBar, notesBefore, headsIn, midiBefore, toneDrawn, sungBefore, songBeats, songStart, songStream, ToldAt, LeadTold}
 use Rattle.composer.specs.Lead.Scale.{poolOf}
 use Rattle.composer.specs.Lead.Tones.{distanceOf}
 use Rattle.composer.specs.Lead.Sound.{Good, Ready}
@@ -93,7 +95,7 @@ rule-said bar b i heads from prev tone = go (eqb bar 4) (isStrongOf (getD (b .at
 -- ---- the role by the line
 role-by : (l : Line) (p : Place) → roleOf l p .role ≡ ruleBy p (l .heads) (l .from) (l .prev) (toneDrawn (l .stream))
 unfolding roleOf chanceRoleOf ruleBy
-role-by l p = by-cases (quotesOf p (l .heads)) (p .last) (peaksOf p) (leaptOf (l .from) (l .prev)) (p .strong) (toneDrawn (l .stream)) (l .stream) (chanceOf (l .stream) (ofBits binary32 0x3f0c_cccd) .stream)
+role-by l p = by-cases (quotesOf p (l .heads)) (p .last) (peaksOf p) (leaptOf (l .from) (l .prev)) (p .strong) (toneDrawn (l .stream)) (l .stream) (chanceOf (l .stream) toneChance .stream)
   where
     by-cases : (a b c d e f : Bool) (s t : NoiseStream)
         → _≡_ {A = Role} (cond a (chosenOf Quote s) (cond b (chosenOf Close s) (cond c (chosenOf Peak s) (cond d (chosenOf Resolve s) (cond e (chosenOf ChordTone s) (cond f (chosenOf ChordTone t) (chosenOf Passing t)))))) .role)
@@ -219,34 +221,6 @@ module _ (pool : List Bool) (g : Ground) (b : Beats) (m : Sung) where
   heads-later k zero = refl
   heads-later k (suc i) = rw eqb·suc-zero (heads-later k i)
 
-earlier-bar : (beats : List Beats) (c i k : ℕ) → c < k → i < getD beats c pastBeats .n → notesBefore beats c + i < notesBefore beats k
-unfolding notesBefore
-earlier-bar beats c i zero h l = absurd (not-suc-le-zero h)
-earlier-bar beats c i (suc k) h l =
-    ⊎-elim
-    (λ (e : c ≡ k). subst (λ (v : ℕ). notesBefore beats c + i < notesBefore beats v + getD beats v pastBeats .n) e (omega arith))
-    (λ (e : c < k). omega (arith, earlier-bar beats c i k e l))
-    (eq-or-lt-of-le (le-of-suc-le-suc h))
-
--- which note of which bar it is
-record Placed (beats : List Beats) (k n : ℕ) : Type 0 where
-  bar : ℕ
-  place : ℕ
-  in-loop : bar < k
-  in-bar : place < getD beats bar pastBeats .n
-  stands : n ≡ notesBefore beats bar + place
-
-place-of : (beats : List Beats) (k n : ℕ) → n < notesBefore beats k → Placed beats k n
-unfolding notesBefore
-place-of beats zero n h = absurd (not-suc-le-zero h)
-place-of beats (suc k) n h = go (ltb n (notesBefore beats k)) refl (place-of beats k n)
-  where
-    go : (t : Bool) → ltb n (notesBefore beats k) ≡ t → (n < notesBefore beats k → Placed beats k n) → Placed beats (suc k) n
-    go true e earlier = let p = earlier (ltb-true n (notesBefore beats k) e) in record { bar = p .bar; place = p .place; in-loop = omega (arith, p .in-loop); in-bar = p .in-bar; stands = p .stands }
-    go false e earlier =
-        let l = ltb-false n (notesBefore beats k) e in
-        record { bar = k; place = n - notesBefore beats k; in-loop = omega arith; in-bar = omega arith; stands = omega arith }
-
 -- ---- the eight bars
 module _ (s : NoiseStream) (beats : List Beats) (bars : List Chord) (pool : List Bool) (style : LeadStyle) (ready : Ready beats bars pool style) where
   abbrev first : ℕ
@@ -259,7 +233,7 @@ module _ (s : NoiseStream) (beats : List Beats) (bars : List Chord) (pool : List
   ground k = groundOf style (getD bars k pastChord) pool
 
   count-is : (k : ℕ) → laneTo k .count ≡ notesBefore beats k
-  unfolding barsTo notesBefore nothingSung
+  unfolding barsTo sumTo nothingSung
   count-is zero = refl
   count-is (suc k) = let b = getD beats k pastBeats in omega (arith, bar-count pool (ground k) k b (laneTo k) (b .n), count-is k)
 
@@ -292,7 +266,7 @@ module _ (s : NoiseStream) (beats : List Beats) (bars : List Chord) (pool : List
             (λ (e : c ≡ k). subst (λ (v : ℕ). Told v (laneTo (suc k))) (sym e) (λ i u. subst (λ (v : ℕ). ByRule first beats (laneTo (suc k) .notes) (sungBefore s beats bars pool style k i .line .stream) k i (v + i)) (count-is k) (told .1 i u)))
             (λ (e : c < k).
             λ i u.
-            rule-kept first beats (laneTo k .notes) (laneTo (suc k) .notes) (sungBefore s beats bars pool style c i .line .stream) c i (notesBefore beats c + i) (λ j q. grown .kept j (omega (arith, count-is k, earlier-bar beats c i k e u))) (before .1 c e i u))
+            rule-kept first beats (laneTo k .notes) (laneTo (suc k) .notes) (sungBefore s beats bars pool style c i .line .stream) c i (notesBefore beats c + i) (λ j q. grown .kept j (omega (arith, count-is k, sum-within (notesOfBar beats) c i k e u))) (before .1 c e i u))
             (eq-or-lt-of-le (le-of-suc-le-suc l)),
       )
 
@@ -333,7 +307,7 @@ module _ (s : NoiseStream) (h : Harmony) (tonal : Tonal h) (style : Style) (beat
   told-at : (k i : ℕ) → k < 8 → i < getD beats k pastBeats .n → ToldAt s h style (leadOf s h style beatS .notes) (notesBefore beats k + i)
   told-at k i a b =
       let n = notesBefore beats k + i in
-      let in-lane : n < leadOf s h style beatS .count = omega (arith, lead-count, earlier-bar beats k i 8 a b) in
+      let in-lane : n < leadOf s h style beatS .count = omega (arith, lead-count, sum-within (notesOfBar beats) k i 8 a b) in
       let kept = keeps s h tonal style beatS n in-lane in
       let rule = sung-told k i a b in
       let bar = getD beats k pastBeats in
@@ -354,6 +328,6 @@ module _ (s : NoiseStream) (h : Harmony) (tonal : Tonal h) (style : Style) (beat
   lead-told = record {
     all = lead-count;
     each = λ n a.
-        let p = place-of beats 8 n (omega (arith, lead-count)) in
-        subst (ToldAt s h style (leadOf s h style beatS .notes)) (sym (p .stands)) (told-at (p .bar) (p .place) (p .in-loop) (p .in-bar));
+        let p = sum-part (notesOfBar beats) 8 n (omega (arith, lead-count)) in
+        subst (ToldAt s h style (leadOf s h style beatS .notes)) (sym (p .stands)) (told-at (p .part) (p .place) (p .few) (p .inside));
   }

@@ -2,7 +2,7 @@
 use mathlib.Core.Bool.{Bool, cond, not, _&&_}
 use Prim.Native.Nat.{ℕ}
 use lib.Dec.{ltb, eqb}
-use lib.Ieee.{binary32, ofBits}
+use lib.Ieee.{Float, binary32, ofBits}
 use Rattle.streams.specs.Draw.{chanceOf}
 use Rattle.streams.specs.declared.stream.NoiseStream.{NoiseStream}
 use Rattle.composer.specs.Lead.Tones.{distanceOf}
@@ -37,10 +37,14 @@ leaptOf from prev = ltb 4 (distanceOf from prev)
 abbrev pub chosenOf : Role → NoiseStream → RoleDraw
 chosenOf role s = record { role = role; stream = s }
 
--- a chord tone with the chance 0.55, or else a passing one
+-- 0.55
+abbrev pub toneChance : Float
+toneChance = ofBits binary32 0x3f0c_cccd
+
+-- a chord tone with that chance, or else a passing one
 unfoldable pub chanceRoleOf : NoiseStream → RoleDraw
 chanceRoleOf s =
-    let c = chanceOf s (ofBits binary32 0x3f0c_cccd) in
+    let c = chanceOf s toneChance in
     cond (c .value) (chosenOf ChordTone (c .stream)) (chosenOf Passing (c .stream))
 
 unfoldable pub roleOf : Line → Place → RoleDraw

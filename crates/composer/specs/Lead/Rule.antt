@@ -6,7 +6,8 @@ use mathlib.Core.List.{List}
 use Prim.Native.Nat.{ℕ, zero, suc, _+_, _-_, _<_, min}
 use lib.Dec.{eqb, ltb}
 use lib.ListN.{getD}
-use lib.Ieee.{nan, binary32, ofBits}
+use lib.Ieee.{nan}
+use Rattle.laws.specs.Sums.{sumTo}
 use Rattle.streams.specs.Draw.{chanceOf}
 use Rattle.streams.specs.declared.stream.NoiseStream.{NoiseStream}
 use Rattle.composer.specs.Chord.{pastChord}
@@ -15,7 +16,7 @@ use Rattle.composer.specs.Lead.Ground.{groundOf}
 use Rattle.composer.specs.Lead.Line.{isStrongOf}
 use Rattle.composer.specs.Lead.Melody.{barTo, startOf, nothingSung, barsTo}
 use Rattle.composer.specs.Lead.Rhythm.{rhythmOf}
-use Rattle.composer.specs.Lead.Role.{notedOf}
+use Rattle.composer.specs.Lead.Role.{notedOf, toneChance}
 use Rattle.composer.specs.Lead.Scale.{poolOf}
 use Rattle.composer.specs.Lead.Tones.{distanceOf}
 use Rattle.composer.specs.Note.{pastNote}
@@ -42,23 +43,25 @@ ruleOf bar i n strong heads from prev tone =
     (cond (ltb 4 (distanceOf from prev)) Resolve
     (cond (strong || tone) ChordTone Passing))))
 
--- how many notes the bars before bar k have
-unfoldable pub notesBefore : List Beats → ℕ → ℕ
-notesBefore beats zero = 0
-notesBefore beats (suc k) = notesBefore beats k + getD beats k pastBeats .n
+-- how many notes a bar has, and the bars before it
+abbrev pub notesOfBar : List Beats → ℕ → ℕ
+notesOfBar beats k = getD beats k pastBeats .n
+
+abbrev pub notesBefore : List Beats → ℕ → ℕ
+notesBefore beats k = sumTo (notesOfBar beats) k
 
 -- the head that bar 4 quotes: bar 0's first two notes, or fewer where it has fewer
 abbrev pub headsIn : List Beats → ℕ
-headsIn beats = min 2 (getD beats 0 pastBeats .n)
+headsIn beats = min 2 (notesOfBar beats 0)
 
 -- the pitch before lead note n: that of the note before it, and before the first the one that the line starts from
 unfoldable pub midiBefore : ℕ → List Note → ℕ → ℕ
 midiBefore start notes zero = start
 midiBefore start notes (suc n) = getD notes n pastNote .midi
 
--- a draw with the chance 0.55
+-- a draw with the chance of a chord tone, 0.55
 abbrev pub toneDrawn : NoiseStream → Bool
-toneDrawn s = chanceOf s (ofBits binary32 0x3f0c_cccd) .value
+toneDrawn s = chanceOf s toneChance .value
 
 -- the melody before note i of bar k
 abbrev pub sungBefore : NoiseStream → List Beats → List Chord → List Bool → LeadStyle → ℕ → ℕ → Sung
@@ -84,11 +87,11 @@ pub record ToldAt (s : NoiseStream) (h : Harmony) (style : Style) (notes : List 
   pub bar : ℕ
   pub place : ℕ
   pub in-loop : bar < 8
-  pub in-bar : place < getD (songBeats s style) bar pastBeats .n
+  pub in-bar : place < notesOfBar (songBeats s style) bar
   pub stands : n ≡ notesBefore (songBeats s style) bar + place
   pub of-bar : getD notes n pastNote .bar ≡ bar
   pub role : getD notes n pastNote .role
-      ≡ notedOf (ruleOf bar place (getD (songBeats s style) bar pastBeats .n) (isStrongOf (getD (getD (songBeats s style) bar pastBeats .at) place nan))
+      ≡ notedOf (ruleOf bar place (notesOfBar (songBeats s style) bar) (isStrongOf (getD (getD (songBeats s style) bar pastBeats .at) place nan))
       (headsIn (songBeats s style)) (midiBefore (songStart h style) notes (n - 1)) (midiBefore (songStart h style) notes n) (toneDrawn (songStream s h style bar place)))
 
 -- every note of a lead is told so, and it has as many as its rhythm
