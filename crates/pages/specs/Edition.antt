@@ -1,4 +1,5 @@
--- The two editions: all in which their sheets differ. A page is of edition 2 alone. Definitions only.
+-- The two editions: in which numbers their sheets differ, and by which field; a note's bytes are in Lane.antt. A page is
+-- of edition 2 alone. Definitions only.
 use mathlib.Core.List.{List, [], _∷_}
 use Prim.Native.Nat.{ℕ}
 use Rattle.pages.specs.Bytes.{field}

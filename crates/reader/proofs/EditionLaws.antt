@@ -21,13 +21,13 @@ use Rattle.reader.proofs.TellsLaws.{read-tells}
 use Rattle.reader.proofs.TestedLaws.{tested-value}
 
 -- ---- how a sheet begins
-one-begins : (v : Song) → v .edition ≡ Edition.One → byteAt (sheetOf v) 0 ≡ 1
+one-first : (v : Song) → v .edition ≡ Edition.One → byteAt (sheetOf v) 0 ≡ 1
 unfolding sheetBytes songBytes field
-one-begins v e = ap (λ (x : Edition). byteAt (sheetBytes x (v .seed) (v .score) (v .scale) (v .form)) 0) e
+one-first v e = ap (λ (x : Edition). byteAt (sheetBytes x (v .seed) (v .score) (v .scale) (v .form)) 0) e
 
-two-begins : (v : Song) → v .edition ≡ Edition.Two → take 4 (sheetOf v) ≡ 0 ∷ 0 ∷ 1 ∷ 2 ∷ []
+two-first : (v : Song) → v .edition ≡ Edition.Two → take 4 (sheetOf v) ≡ 0 ∷ 0 ∷ 1 ∷ 2 ∷ []
 unfolding sheetBytes songBytes field
-two-begins v e = ap (λ (x : Edition). take 4 (sheetBytes x (v .seed) (v .score) (v .scale) (v .form))) e
+two-first v e = ap (λ (x : Edition). take 4 (sheetBytes x (v .seed) (v .score) (v .scale) (v .form))) e
 
 -- no bytes that begin with another 0x00 are the fields of an edition
 other-fields : (bytes : List ℕ) → byteAt bytes 0 ≡ 0 → (take 4 bytes ≡ 0 ∷ 0 ∷ 1 ∷ 2 ∷ [] → ⊥) → TenFields bytes → ⊥
@@ -53,8 +53,8 @@ module _ (bytes : List ℕ) (octets : Octets bytes) (v : Song) (reads : Reads by
 
 pub edition-tells : (bytes : List ℕ) → Octets bytes → EditionTells bytes
 edition-tells bytes octets = record {
-  one = λ v reads e. ap (λ (b : List ℕ). byteAt b 0) (sym (sheet-is bytes octets v reads)) ∙ one-begins v e;
-  two = λ v reads e. ap (take 4) (sym (sheet-is bytes octets v reads)) ∙ two-begins v e;
+  one-begins = λ v reads e. ap (λ (b : List ℕ). byteAt b 0) (sym (sheet-is bytes octets v reads)) ∙ one-first v e;
+  two-begins = λ v reads e. ap (take 4) (sym (sheet-is bytes octets v reads)) ∙ two-first v e;
   other = λ zero other. read-tells bytes octets .fields (other-fields bytes zero other);
   roles = roles-in bytes octets;
 }

@@ -82,8 +82,8 @@ pub record RolesIn (v : Song) : Type 0 where
 
 pub record EditionTells (bytes : List ℕ) : Type 0 where
   -- what is read says which it is: edition 2 begins with 0x00, length 1, body 2, and edition 1 with 0x01
-  pub one : (v : Song) → Reads bytes v → v .edition ≡ Edition.One → byteAt bytes 0 ≡ 1
-  pub two : (v : Song) → Reads bytes v → v .edition ≡ Edition.Two → take 4 bytes ≡ 0 ∷ 0 ∷ 1 ∷ 2 ∷ []
+  pub one-begins : (v : Song) → Reads bytes v → v .edition ≡ Edition.One → byteAt bytes 0 ≡ 1
+  pub two-begins : (v : Song) → Reads bytes v → v .edition ≡ Edition.Two → take 4 bytes ≡ 0 ∷ 0 ∷ 1 ∷ 2 ∷ []
   -- a 0x00 with another length or body is 7
   pub other : byteAt bytes 0 ≡ 0 → (take 4 bytes ≡ 0 ∷ 0 ∷ 1 ∷ 2 ∷ [] → ⊥) → readAnswered (readOf bytes) ≡ Refuses 7
   -- and its roles are the edition's

@@ -53,8 +53,8 @@ fn role_at(bytes: &[u8], at: usize, edition: Edition, leads: bool) -> NoteRole
     }
 }
 
-// Whether the note there is in range. The first fault ends the test: six branches that are hardly ever taken cost half
-// of what six answers and their conjunction do.
+// Whether the note there is in range. The first fault ends the test: branches that are hardly ever taken cost less than
+// as many answers and their conjunction.
 fn note_passes(bytes: &[u8], at: usize, edition: Edition, leads: bool) -> bool
     requires { ⌜ at + noteWidth edition ≤ length (now bytes) ⌝ }
     ensures { λ r. ⌜ r ≡ noteWithin edition leads (noteAt edition leads (now (bytes .entry)) at) ⌝ }
