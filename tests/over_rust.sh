@@ -15,11 +15,17 @@ find_rust() {
 }
 
 # lay_rust ROOM: puts the Rust's files into ROOM, and what drivers over them share. The Rust's files keep their text;
-# one module line behind it reaches what is private there.
+# one module line behind it reaches what is private there. Our library's own wrapper has a folder for itself, since a
+# file of a driver may have the name of one of its files.
 lay_rust() {
-    mkdir -p "$1/compose"
+    mkdir -p "$1/compose" "$1/wrapper"
     cp -r tests/differential/src/reach tests/differential/src/synth.rs "$1"
-    cp bindings/rust/seqochanu.rs bindings/rust/sheet.rs "$1"
+    for file in bindings/rust/*.rs; do
+        case $file in
+        *_tests.rs) ;;
+        *) cp "$file" "$1/wrapper" ;;
+        esac
+    done
     for file in dsp compose compose/form style; do
         cat "$rust/src/$file.rs" >"$1/$file.rs"
     done

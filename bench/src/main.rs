@@ -17,6 +17,7 @@ mod synth;
 
 // of the list, our wrapper's C function alone is asked for: its safe call makes a vector
 #[allow(dead_code)]
+#[path = "wrapper/seqochanu.rs"]
 mod seqochanu;
 
 mod cases;

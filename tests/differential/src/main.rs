@@ -16,6 +16,7 @@ mod synth;
 
 // our library's own wrapper, of which the driver asks for the C functions
 #[allow(dead_code)]
+#[path = "wrapper/seqochanu.rs"]
 mod seqochanu;
 
 mod bytes;
