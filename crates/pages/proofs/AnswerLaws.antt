@@ -10,11 +10,12 @@ use lib.Dec.{ltb}
 use lib.ListN.{length, take, drop}
 use lib.Seq.{take-append-seam, drop-append-seam}
 use Rattle.laws.specs.Writes.{Wrote}
+use Rattle.laws.proofs.Bools.{either}
 use Rattle.laws.proofs.Writes.{wrote-first}
-use Rattle.composer.specs.Refusal.{Gives}
+use Rattle.composer.specs.Refusal.{Answer, Gives, Refuses, answerBy}
 use Rattle.composer.specs.declared.refusal.Outcome.{Outcome}
 use Rattle.composer.specs.declared.refusal.Refusal.{Refusal}
-use Rattle.pages.specs.Answer.{Asked, Writes, Declines, bytesOf, askedBy, writtenOf, bufferOf, writtenAnswered, CallAnswers}
+use Rattle.pages.specs.Answer.{Asked, Writes, Declines, bytesOf, askedBy, writtenOf, bufferOf, writtenCount, writtenAnswered, CallAnswers}
 use Rattle.pages.specs.declared.answer.Written.{Written}
 
 pub refused : (b bytes : List ℕ) → length b < length bytes → (Written.Refused Refusal.ShortBuffer ≡ writtenOf (length b) (Writes bytes)) × (b ≡ bufferOf b (Writes bytes))
@@ -46,6 +47,16 @@ room-answers bytes b h = (ap writtenAnswered (room-written bytes b h), room-buff
 pub room-bytes : (bytes b : List ℕ) → length bytes ≤ length b → take (length bytes) (bufferOf b (Writes bytes)) ≡ bytes
 room-bytes bytes b h = rw (room-buffer bytes b h) (take-append-seam bytes (drop (length bytes) b))
 
+-- what a call wrote is no longer than what it was asked for
+pub count-most : (room : ℕ) (a : Asked) → writtenCount (writtenOf room a) ≤ length (bytesOf a)
+count-most room (Writes bytes) = either (λ (w : Written). writtenCount w ≤ length bytes) (ltb room (length bytes)) (Written.Refused Refusal.ShortBuffer) (Written.Bytes (length bytes)) (omega arith) (omega arith)
+count-most room (Declines r) = omega arith
+
+-- and it is just that, in a buffer long enough
+pub count-bytes : (a : Asked) (b : List ℕ) → length (bytesOf a) ≤ length b → take (writtenCount (writtenOf (length b) a)) (bufferOf b a) ≡ bytesOf a
+count-bytes (Writes bytes) b h = rw (room-written bytes b h) (room-bytes bytes b h)
+count-bytes (Declines r) b h = refl
+
 -- whatever the buffers held
 pub same-bytes : (a : Asked) (b b′ : List ℕ) → length (bytesOf a) ≤ length b → length (bytesOf a) ≤ length b′ → take (length (bytesOf a)) (bufferOf b a) ≡ take (length (bytesOf a)) (bufferOf b′ a)
 same-bytes (Writes bytes) b b′ h k = room-bytes bytes b h ∙ sym (room-bytes bytes b′ k)
@@ -64,3 +75,12 @@ beyond (Declines r) b = refl
 pub asked-most : (o : Outcome) (a : Asked) (m : ℕ) → length (bytesOf a) ≤ m → length (bytesOf (askedBy o a)) ≤ m
 asked-most Outcome.Done a m h = h
 asked-most (Outcome.Refused r) a m h = omega arith
+
+-- what was refused before is what the call answers
+abbrev number : {A : Type 0} → Answer A → ℕ
+number (Gives x) = 0
+number (Refuses n) = n
+
+pub asked-refused : {A : Type 0} (o : Outcome) (x : A) (a : Asked) (n : ℕ) (b : List ℕ) → answerBy o x ≡ Refuses n → CallAnswers (askedBy o a) b (Refuses n) b
+asked-refused Outcome.Done x a n b e = let z : _≡_ {A = ℕ} 0 1 = cc in absurd (omega arith)
+asked-refused {A} (Outcome.Refused r) x a n b e = (ap (λ (y : Answer A). Refuses (number y)) e, refl)

@@ -104,3 +104,8 @@ module _ (edition : Edition) where
 -- as sheets are asked for
 pub sheet-most : (style seed : ℕ) → length (bytesOf (sheetAsked style seed)) ≤ sheetMost Edition.Two
 sheet-most = sheet-in-most Edition.Two
+
+-- edition 2 has the longest
+pub edition-most : (edition : Edition) → sheetMost edition ≤ sheetMost Edition.Two
+edition-most Edition.One = omega arith
+edition-most Edition.Two = omega arith

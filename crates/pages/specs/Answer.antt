@@ -34,6 +34,11 @@ abbrev pub bufferOf : List ℕ → Asked → List ℕ
 bufferOf b (Writes bytes) = cond (ltb (length b) (length bytes)) b (bytes ++ drop (length bytes) b)
 bufferOf b (Declines r) = b
 
+-- how many bytes are written
+abbrev pub writtenCount : Written → ℕ
+writtenCount (Written.Bytes n) = n
+writtenCount (Written.Refused r) = 0
+
 -- the answer as document 01 has it: the length, or the number alone
 abbrev pub writtenAnswered : Written → Answer ℕ
 writtenAnswered (Written.Bytes n) = Gives n

@@ -13,6 +13,7 @@ use Rattle.composer.specs.Harmony.{notesOf}
 use Rattle.composer.specs.Lead.Scale.{pcsOf}
 use Rattle.composer.specs.Style.{styleNumberOf}
 use Rattle.composer.specs.Voice.{voiceNumberOf}
+use Rattle.composer.specs.declared.compose.Composed.{Composed}
 use Rattle.composer.specs.declared.form.Form.{Form}
 use Rattle.composer.specs.declared.harmony.Scale.{Scale}
 use Rattle.composer.specs.declared.score.Score.{Score}
@@ -78,11 +79,13 @@ sheetSize edition s scale f =
 abbrev pub lanesSize : Edition → Score → ℕ
 lanesSize edition s = 12 + laneSize edition s Lane.Lead + laneSize edition s Lane.Keys + laneSize edition s Lane.Hits + laneSize edition s Lane.Bass
 
--- what a sheet of a style and a seed has to write in an edition
+-- what the sheet of a seed has to write in an edition, with what composing gave: the sheet, or why there is no song
+abbrev pub sheetBy : Edition → ℕ → Composed → Asked
+sheetBy edition seed song = askedBy (song .outcome) (Writes (sheetBytes edition seed (song .score) (song .scale) (arrangeOf seed)))
+
+-- of a style and a seed
 unfoldable pub sheetIn : Edition → ℕ → ℕ → Asked
-sheetIn edition style seed =
-    let song = composeOf style seed in
-    askedBy (song .outcome) (Writes (sheetBytes edition seed (song .score) (song .scale) (arrangeOf seed)))
+sheetIn edition style seed = sheetBy edition seed (composeOf style seed)
 
 -- sheets are asked for in edition 2
 abbrev pub sheetAsked : ℕ → ℕ → Asked

@@ -7,9 +7,11 @@ use lib.Dec.{T}
 use lib.Ieee.Scale.{finite}
 use lib.ListN.{length, getD}
 use Rattle.composer.specs.Note.{pastNote, pastHit}
-use Rattle.composer.specs.Promise.{LanesPromise}
+use Rattle.composer.specs.Promise.{LanesPromise, ScorePromise}
+use Rattle.composer.specs.declared.compose.Composed.{Composed}
 use Rattle.composer.specs.declared.note.Hit.{Hit}
 use Rattle.composer.specs.declared.note.Note.{Note}
+use Rattle.composer.specs.declared.refusal.Outcome.{Outcome}
 use Rattle.composer.specs.declared.score.Score.{Score}
 
 -- an array of `cap` entries, of which n are in use
@@ -49,3 +51,7 @@ pub record Writable (s : Score) : Type 0 where
 pub record Paged (s : Score) : Type 0 where
   pub lanes : LanesPromise s
   pub writable : Writable s
+
+-- what composing gave has all that composing promises, where it gave a song
+abbrev pub Promised : Composed → Type 0
+Promised song = song .outcome ≡ Outcome.Done → ScorePromise (song .score .style) (song .score) (song .scale)

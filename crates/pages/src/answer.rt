@@ -1,7 +1,7 @@
 // What a call answers that writes into a buffer.
 ghost use mathlib.Core.Path.{_≡_};
 ghost use lib.ListN.{length};
-ghost use Rattle.pages.specs.Answer.{Writes, writtenOf, bufferOf};
+ghost use Rattle.pages.specs.Answer.{Writes, writtenOf, bufferOf, writtenCount};
 use crate::put::put_bytes;
 use composer::refusal::Refusal;
 
@@ -10,6 +10,18 @@ pub enum Written {
     Bytes(usize),
     // nothing is written
     Refused(Refusal),
+}
+
+impl Written {
+    // How many bytes it wrote.
+    pub fn count(self) -> usize
+        ensures { λ r. ⌜ r ≡ writtenCount self ⌝ }
+    {
+        match self {
+            Written::Bytes(n) => n,
+            Written::Refused(_) => 0,
+        }
+    }
 }
 
 // Bytes as they stand, if the buffer is as long as they are.

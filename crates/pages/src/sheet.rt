@@ -8,8 +8,8 @@ ghost use Rattle.laws.specs.Writes.{Wrote};
 ghost use Rattle.pages.specs.Answer.{Writes, writtenOf, bufferOf};
 ghost use Rattle.pages.specs.Lane.{laneSize};
 ghost use Rattle.pages.specs.Page.{Chorded};
-ghost use Rattle.pages.specs.Sheet.{nameField, tempoField, chordsField, scaleField, songBytes, laneField, lanesSize, lanesBytes, endsField, playsBytes, playsField, formBytes, sheetSize, sheetBytes, sheetIn, sheetAsked};
-ghost use Rattle.pages.specs.Writable.{SizedLanes, FiniteEvents, Writable};
+ghost use Rattle.pages.specs.Sheet.{nameField, tempoField, chordsField, scaleField, songBytes, laneField, lanesSize, lanesBytes, endsField, playsBytes, playsField, formBytes, sheetSize, sheetBytes, sheetBy, sheetIn, sheetAsked};
+ghost use Rattle.pages.specs.Writable.{SizedLanes, FiniteEvents, Writable, Promised};
 use crate::answer::Written;
 use crate::edition::Edition;
 use crate::edition::put_edition;
@@ -21,6 +21,7 @@ use crate::put::put_f32;
 use crate::put::put_head;
 use crate::put::put_u8;
 use crate::put::put_u64;
+use composer::compose::Composed;
 use composer::compose::compose;
 use composer::form::Form;
 use composer::form::song::arrange;
@@ -266,12 +267,12 @@ pub fn sheet_into(
     Written::Bytes(n)
 }
 
-// The sheet of a seed's song in an edition, as `sheet` writes it in edition 2.
-pub fn sheet_in(edition: Edition, style: u8, seed: u64, buf: &mut [u8]) -> Written
-    ensures { λ r. ⌜ r ≡ writtenOf (length (now (buf .entry))) (sheetIn edition style seed) ⌝ }
-    ensures { λ r. ⌜ now (buf .exit) ≡ bufferOf (now (buf .entry)) (sheetIn edition style seed) ⌝ }
+// The sheet of a seed in an edition, of what `compose` gave for it: who needs a song in both editions composes once.
+pub fn composed_into(edition: Edition, seed: u64, song: Composed, buf: &mut [u8]) -> Written
+    requires { ⌜ Promised song ⌝ }
+    ensures { λ r. ⌜ r ≡ writtenOf (length (now (buf .entry))) (sheetBy edition seed song) ⌝ }
+    ensures { λ r. ⌜ now (buf .exit) ≡ bufferOf (now (buf .entry)) (sheetBy edition seed song) ⌝ }
 {
-    let song = compose(style, seed);
     let outcome = song.outcome;
     match outcome {
         Outcome::Refused(r) => Written::Refused(r),
@@ -282,6 +283,15 @@ pub fn sheet_in(edition: Edition, style: u8, seed: u64, buf: &mut [u8]) -> Writt
             sheet_into(edition, seed, score, scale, form, buf)
         }
     }
+}
+
+// The sheet of a seed's song in an edition, as `sheet` writes it in edition 2.
+pub fn sheet_in(edition: Edition, style: u8, seed: u64, buf: &mut [u8]) -> Written
+    ensures { λ r. ⌜ r ≡ writtenOf (length (now (buf .entry))) (sheetIn edition style seed) ⌝ }
+    ensures { λ r. ⌜ now (buf .exit) ≡ bufferOf (now (buf .entry)) (sheetIn edition style seed) ⌝ }
+{
+    let song = compose(style, seed);
+    composed_into(edition, seed, song, buf)
 }
 
 // The sheet of a seed's song in style 0 or 1, in edition 2, from the buffer's first byte on, and its length; what lies

@@ -43,7 +43,7 @@ module _ (bytes : List ℕ) (octets : Octets bytes) (v : Song) (reads : Reads by
   makes : Makes v bytes
   makes = reader-promise .again v bytes octets reads
 
-  sheet-is : sheetOf v ≡ bytes
+  pub sheet-is : sheetOf v ≡ bytes
   sheet-is = ap bytesOf (sym (asked-valid v (writes-valid v bytes (makes .asked))) ∙ makes .asked)
 
   roles-in : RolesIn v

@@ -11,7 +11,7 @@ use Rattle.pages.specs.Answer.{Asked, bytesOf, askedBy}
 use Rattle.pages.specs.Edition.{sheetMost}
 use Rattle.pages.specs.Writable.{SizedLanes}
 use Rattle.pages.specs.declared.edition.Edition.{Edition}
-use Rattle.pages.proofs.SheetLaws.{chords-length, sheet-length, counts-most}
+use Rattle.pages.proofs.SheetLaws.{chords-length, sheet-length, counts-most, edition-most}
 use Rattle.reader.specs.Layout.{formed}
 use Rattle.reader.specs.Read.{readOf, writeAsked, rereadAsked}
 use Rattle.reader.specs.Song.{songIn, sheetOf}
@@ -35,11 +35,6 @@ module _ (v : Song) (p : Value v) where
       let chords = chords-length (v .score .«bar_chords») (p .chords .size) (λ b h. p .chords .used b h .size) in
       let size = sheet-length (v .edition) (v .seed) (v .score) (v .scale) (v .form) lanes chords (omega (arith, p .classes .few, p .classes .size)) (omega (arith, p .plays .few, p .plays .size)) in
       rw size (counts-most (v .edition) _ _ _ _ _ _ (p .classes .few) (p .lead .few) (p .keys .few) (p .hits .few) (p .bass .few) (p .plays .few))
-
--- edition 2 has the longest
-edition-most : (edition : Edition) → sheetMost edition ≤ sheetMost Edition.Two
-edition-most Edition.One = omega arith
-edition-most Edition.Two = omega arith
 
 pub value-most : (v : Song) → Typed v → valid v ≡ true → length (sheetOf v) ≤ sheetMost (v .edition)
 value-most v t ok = most v (tested-value v (t .shape) ok)

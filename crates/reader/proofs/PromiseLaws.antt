@@ -6,8 +6,8 @@ use Prim.Native.Nat.{ℕ}
 use native.Mathlib.Omega.{arith}
 use Rattle.composer.specs.Refusal.{Answer, Gives, Refuses, answerBy}
 use Rattle.composer.specs.declared.refusal.Outcome.{Outcome}
-use Rattle.pages.specs.Answer.{Asked, Writes, bytesOf, askedBy, CallAnswers}
-use Rattle.pages.proofs.AnswerLaws.{refused, call-answers, room-answers}
+use Rattle.pages.specs.Answer.{Writes, bytesOf}
+use Rattle.pages.proofs.AnswerLaws.{refused, call-answers, room-answers, asked-refused}
 use Rattle.reader.specs.Codes.{coded}
 use Rattle.reader.specs.Composed.{composedSong}
 use Rattle.reader.specs.Layout.{formed}
@@ -35,7 +35,7 @@ answered : (o : Outcome) (x v : Song) → answerBy o x ≡ Gives v → (o ≡ Ou
 answered Outcome.Done x v e = (refl, ap (λ (a : Answer Song). given a x) e)
 answered (Outcome.Refused r) x v e = let z : _≡_ {A = ℕ} 0 1 = cc in absurd (omega arith)
 
-reads-told : (bytes : List ℕ) (v : Song) → Reads bytes v → (readOf bytes .outcome ≡ Outcome.Done) × (readOf bytes .song ≡ v)
+pub reads-told : (bytes : List ℕ) (v : Song) → Reads bytes v → (readOf bytes .outcome ≡ Outcome.Done) × (readOf bytes .song ≡ v)
 reads-told bytes v e = answered (readOf bytes .outcome) (readOf bytes .song) v e
 
 -- ---- what is written and read
@@ -105,19 +105,11 @@ reread-done bytes octets done = rw done (asked-valid (readOf bytes .song) (read-
 reread-given : (v : Song) (bytes : List ℕ) → Octets bytes → Reads bytes v → rereadAsked bytes ≡ Writes bytes
 reread-given v bytes octets e = reread-done bytes octets (reads-told bytes v e .0)
 
-abbrev number : {A : Type 0} → Answer A → ℕ
-number (Gives x) = 0
-number (Refuses n) = n
-
-reread-refused : (o : Outcome) (x : Song) (a : Asked) (n : ℕ) (b : List ℕ) → answerBy o x ≡ Refuses n → CallAnswers (askedBy o a) b (Refuses n) b
-reread-refused Outcome.Done x a n b e = let z : _≡_ {A = ℕ} 0 1 = cc in absurd (omega arith)
-reread-refused (Outcome.Refused r) x a n b e = (ap (λ (y : Answer Song). Refuses (number y)) e, refl)
-
 pub reread-answers : (bytes b : List ℕ) → Octets bytes → RereadAnswers bytes b
 unfolding rereadAsked
 reread-answers bytes b octets = record {
-  fields = reread-refused (readOf bytes .outcome) (readOf bytes .song) (writeAsked (readOf bytes .song)) 7 b;
-  values = reread-refused (readOf bytes .outcome) (readOf bytes .song) (writeAsked (readOf bytes .song)) 8 b;
+  fields = asked-refused (readOf bytes .outcome) (readOf bytes .song) (writeAsked (readOf bytes .song)) 7 b;
+  values = asked-refused (readOf bytes .outcome) (readOf bytes .song) (writeAsked (readOf bytes .song)) 8 b;
   short = λ v e h. rw (reread-given v bytes octets e) (call-answers (Writes bytes) b (refused b bytes h));
   written = λ v e h. rw (reread-given v bytes octets e) (room-answers bytes b h);
 }

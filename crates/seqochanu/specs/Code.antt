@@ -8,8 +8,3 @@ use Rattle.pages.specs.declared.answer.Written.{Written}
 abbrev pub codeOf : Written → ℤ
 codeOf (Written.Bytes n) = pos n
 codeOf (Written.Refused r) = negℤ (pos (numberOf r))
-
--- how many bytes are written
-abbrev pub countOf : Written → ℕ
-countOf (Written.Bytes n) = n
-countOf (Written.Refused r) = 0

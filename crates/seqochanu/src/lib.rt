@@ -3,11 +3,11 @@ ghost use mathlib.Core.Path.{_≡_};
 ghost use Prim.Native.Nat.{_^_, _<_};
 ghost use lib.ListN.{length};
 ghost use Rattle.halls.specs.List.{listAsked};
-ghost use Rattle.pages.specs.Answer.{writtenOf, bufferOf};
+ghost use Rattle.pages.specs.Answer.{writtenOf, bufferOf, writtenCount};
 ghost use Rattle.pages.specs.Page.{pageAsked};
 ghost use Rattle.pages.specs.Sheet.{sheetAsked};
 ghost use Rattle.reader.specs.Read.{rereadAsked};
-ghost use Rattle.seqochanu.specs.Code.{codeOf, countOf};
+ghost use Rattle.seqochanu.specs.Code.{codeOf};
 use halls::list::hall_list;
 use pages::answer::Written;
 use pages::page::bar_page;
@@ -16,7 +16,7 @@ use reader::write::reread;
 
 // The length, or minus the refusal's number.
 fn code(w: Written) -> i64
-    requires { ⌜ countOf w < 2 ^ 63 ⌝ }
+    requires { ⌜ writtenCount w < 2 ^ 63 ⌝ }
     ensures { λ r. ⌜ r ≡ codeOf w ⌝ }
 {
     match w {
