@@ -58,9 +58,9 @@ count-bytes (Writes bytes) b h = rw (room-written bytes b h) (room-bytes bytes b
 count-bytes (Declines r) b h = refl
 
 -- whatever the buffers held
-pub same-bytes : (a : Asked) (b b′ : List ℕ) → length (bytesOf a) ≤ length b → length (bytesOf a) ≤ length b′ → take (length (bytesOf a)) (bufferOf b a) ≡ take (length (bytesOf a)) (bufferOf b′ a)
-same-bytes (Writes bytes) b b′ h k = room-bytes bytes b h ∙ sym (room-bytes bytes b′ k)
-same-bytes (Declines r) b b′ h k = refl
+pub bytes-alike : (a : Asked) (b b′ : List ℕ) → length (bytesOf a) ≤ length b → length (bytesOf a) ≤ length b′ → take (length (bytesOf a)) (bufferOf b a) ≡ take (length (bytesOf a)) (bufferOf b′ a)
+bytes-alike (Writes bytes) b b′ h k = room-bytes bytes b h ∙ sym (room-bytes bytes b′ k)
+bytes-alike (Declines r) b b′ h k = refl
 
 -- bytes beyond keep their values, in a buffer of any length
 pub beyond : (a : Asked) (b : List ℕ) → drop (length (bytesOf a)) (bufferOf b a) ≡ drop (length (bytesOf a)) b

@@ -24,7 +24,7 @@ abbrev pub sheetMost : Edition → ℕ
 sheetMost Edition.One = 5164
 sheetMost Edition.Two = 5456
 
--- ---- what is written now is of edition 2
+-- ---- `sheet` and `bar_page` write edition 2
 -- how many fields a sheet and a page have, their edition's among them
 abbrev pub sheetFields : ℕ
 sheetFields = 11

@@ -83,7 +83,7 @@ lanesSize edition s = 12 + laneSize edition s Lane.Lead + laneSize edition s Lan
 abbrev pub sheetBy : Edition → ℕ → Composed → Asked
 sheetBy edition seed song = askedBy (song .outcome) (Writes (sheetBytes edition seed (song .score) (song .scale) (arrangeOf seed)))
 
--- of a style and a seed
+-- what the sheet of a style and a seed has to write in an edition
 unfoldable pub sheetIn : Edition → ℕ → ℕ → Asked
 sheetIn edition style seed = sheetBy edition seed (composeOf style seed)
 

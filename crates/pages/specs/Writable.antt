@@ -1,5 +1,5 @@
 -- Which scores can be written: counts within the capacities, every number finite; and for a page, lanes in the order
--- of their bars. Definitions only.
+-- of their bars. What composing gave can. Definitions only.
 use mathlib.Core.Path.{_≡_}
 use mathlib.Core.List.{List}
 use Prim.Native.Nat.{ℕ, _≤_, _<_}
@@ -52,6 +52,6 @@ pub record Paged (s : Score) : Type 0 where
   pub lanes : LanesPromise s
   pub writable : Writable s
 
--- what composing gave has all that composing promises, where it gave a song
+-- what composing gave: where it is a song, its score and its scale have what `ScorePromise` says
 abbrev pub Promised : Composed → Type 0
 Promised song = song .outcome ≡ Outcome.Done → ScorePromise (song .score .style) (song .score) (song .scale)
