@@ -13,6 +13,7 @@ numberOf Refusal.WrongLength = 5
 numberOf Refusal.HallCount = 6
 numberOf Refusal.SheetFields = 7
 numberOf Refusal.SheetValues = 8
+numberOf Refusal.OtherSong = 9
 
 pub data Answer (A : Type 0) : Type 0 where
   Gives : A → Answer A

@@ -11,6 +11,7 @@ pub enum Refusal {
     HallCount,
     SheetFields,
     SheetValues,
+    OtherSong,
 }
 
 impl Refusal {
@@ -27,6 +28,7 @@ impl Refusal {
             Refusal::HallCount => 6,
             Refusal::SheetFields => 7,
             Refusal::SheetValues => 8,
+            Refusal::OtherSong => 9,
         }
     }
 }
