@@ -3,14 +3,17 @@
 use mathlib.Core.List.{List}
 use Prim.Native.Nat.{ℕ, _^_, _<_}
 use native.Mathlib.Omega.{arith}
+use Rattle.editions.specs.Convert.{convertAsked}
+use Rattle.editions.proofs.ConvertLaws.{convert-most}
 use Rattle.halls.specs.List.{listAsked}
 use Rattle.halls.proofs.ListLaws.{list-most}
 use Rattle.pages.specs.Answer.{writtenOf, writtenCount}
 use Rattle.pages.specs.Page.{pageAsked}
 use Rattle.pages.specs.Sheet.{sheetAsked}
+use Rattle.pages.specs.declared.edition.Edition.{Edition}
 use Rattle.pages.proofs.AnswerLaws.{count-most}
 use Rattle.pages.proofs.PageLaws.{page-most}
-use Rattle.pages.proofs.SheetLaws.{sheet-most}
+use Rattle.pages.proofs.SheetLaws.{sheet-most, edition-most}
 use Rattle.reader.specs.Read.{rereadAsked}
 use Rattle.reader.proofs.MostLaws.{reread-most}
 
@@ -26,3 +29,6 @@ list-count room hall n = omega (arith, count-most room (listAsked hall n), list-
 
 pub reread-count : (room : ℕ) (bytes : List ℕ) → writtenCount (writtenOf room (rereadAsked bytes)) < 2 ^ 63
 reread-count room bytes = omega (arith, count-most room (rereadAsked bytes), reread-most bytes)
+
+pub convert-count : (room : ℕ) (wanted : Edition) (sheet : List ℕ) → writtenCount (writtenOf room (convertAsked wanted sheet)) < 2 ^ 63
+convert-count room wanted sheet = omega (arith, count-most room (convertAsked wanted sheet), convert-most wanted sheet, edition-most wanted)

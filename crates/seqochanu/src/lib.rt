@@ -1,15 +1,21 @@
-// The sheet, the bar page, the hall list and sheets read back, for C (include/seqochanu.h).
+// The sheet, the bar page, the hall list, sheets read back and sheets from edition to edition, for C
+// (include/seqochanu.h).
 ghost use mathlib.Core.Path.{_≡_};
 ghost use Prim.Native.Nat.{_^_, _<_};
 ghost use lib.ListN.{length};
+ghost use Rattle.editions.specs.Convert.{convertAsked};
 ghost use Rattle.halls.specs.List.{listAsked};
 ghost use Rattle.pages.specs.Answer.{writtenOf, bufferOf, writtenCount};
 ghost use Rattle.pages.specs.Page.{pageAsked};
 ghost use Rattle.pages.specs.Sheet.{sheetAsked};
+ghost use Rattle.pages.specs.declared.edition.Edition.{Edition};
+ghost use Rattle.reader.specs.Promise.{Octets};
 ghost use Rattle.reader.specs.Read.{rereadAsked};
 ghost use Rattle.seqochanu.specs.Code.{codeOf};
+use editions::convert::convert;
 use halls::list::hall_list;
 use pages::answer::Written;
+use pages::edition::Edition;
 use pages::page::bar_page;
 use pages::sheet::sheet;
 use reader::write::reread;
@@ -66,7 +72,33 @@ pub extern "C" fn seqochanu_hall_list(hall: u64, count: u64, buf: &mut [u8]) -> 
 pub extern "C" fn seqochanu_reread(sheet: &[u8], buf: &mut [u8]) -> i64
     ensures { λ r. ⌜ r ≡ codeOf (writtenOf (length (now (buf .entry))) (rereadAsked (now (sheet .entry)))) ⌝ }
     ensures { λ r. ⌜ now (buf .exit) ≡ bufferOf (now (buf .entry)) (rereadAsked (now (sheet .entry))) ⌝ }
+    ensures { λ r. ⌜ Octets (now (sheet .entry)) ⌝ }
 {
     let w = reread(sheet, buf);
+    code(w)
+}
+
+// Writes the sheet, in edition 1, of the style and seed that a sheet names, from the buffer's first byte on and answers
+// its length; what lies beyond stays. The sheet that is given may be of either edition; one of edition 1 is copied.
+// What is no sheet is -7, only then -8, as for `seqochanu_reread`; then one that is not, whole, what its style and seed
+// give in its edition -9, then a buffer that is shorter than the sheet that is due -2; none of them writes anything.
+#[no_mangle]
+pub extern "C" fn seqochanu_to_edition_1(sheet: &[u8], buf: &mut [u8]) -> i64
+    ensures { λ r. ⌜ r ≡ codeOf (writtenOf (length (now (buf .entry))) (convertAsked Edition.One (now (sheet .entry)))) ⌝ }
+    ensures { λ r. ⌜ now (buf .exit) ≡ bufferOf (now (buf .entry)) (convertAsked Edition.One (now (sheet .entry))) ⌝ }
+    ensures { λ r. ⌜ Octets (now (sheet .entry)) ⌝ }
+{
+    let w = convert(sheet, Edition::One, buf);
+    code(w)
+}
+
+// The same in edition 2.
+#[no_mangle]
+pub extern "C" fn seqochanu_to_edition_2(sheet: &[u8], buf: &mut [u8]) -> i64
+    ensures { λ r. ⌜ r ≡ codeOf (writtenOf (length (now (buf .entry))) (convertAsked Edition.Two (now (sheet .entry)))) ⌝ }
+    ensures { λ r. ⌜ now (buf .exit) ≡ bufferOf (now (buf .entry)) (convertAsked Edition.Two (now (sheet .entry))) ⌝ }
+    ensures { λ r. ⌜ Octets (now (sheet .entry)) ⌝ }
+{
+    let w = convert(sheet, Edition::Two, buf);
     code(w)
 }

@@ -20,7 +20,7 @@ same-length c = search needs
 returns : tie.Need-returns
 returns c =
     let w = c .before .before .before .reread .ensures in
-    (toZ-ofZ w64 (c .code .result) (record { sfits = c .code .ok }) ∙ c .code .ensures ∙ ap codeOf (w .0), w .1 .0)
+    (toZ-ofZ w64 (c .code .result) (record { sfits = c .code .ok }) ∙ c .code .ensures ∙ ap codeOf (w .0), w .1)
 
 pub seqochanu-reread-spec : {M : Type 1} → statement M
 seqochanu-reread-spec = tie.close (tie.spec reread-requires code-requires same-length returns)
