@@ -1,6 +1,8 @@
 // What a line asks. The letters are said beside the data, in README.md.
 ghost use Prim.Native.Nat.{_≤_};
+ghost use lib.ListN.{length};
 use composer::refusal::Outcome;
+use editions::convert::convert;
 use halls::list::hall_list;
 use pages::answer::Written;
 use pages::edition::Edition;
@@ -200,12 +202,6 @@ fn both_fold(bytes: &[u8]) -> u64 {
     if copied == made { made } else { u64::MAX }
 }
 
-// A fold of what is read of the first n bytes, or of all if they are fewer, and written again.
-fn again_fold(bytes: &[u8], n: usize) -> u64 {
-    let kept = lesser(n, bytes.len());
-    both_fold(&bytes[..kept])
-}
-
 // Bit 1 of `how`: sheets of edition 1 are kept in the record too.
 fn edition_of(how: u64) -> Edition {
     if how / 2 % 2 == 1 {
@@ -215,19 +211,31 @@ fn edition_of(how: u64) -> Edition {
     }
 }
 
-// The sheet of a song, spoiled as `how` tells (README.md), read and written again.
-fn reread_fold(seed: u64, how: u64) -> u64 {
+// Puts the sheet of a song into the buffer, spoiled as `how` tells (README.md); how many of its bytes are kept.
+fn put_spoiled(buf: &mut [u8], seed: u64, how: u64) -> usize
+    ensures { λ r. ⌜ r ≤ length (now (buf .exit)) ⌝ }
+{
     let edition = edition_of(how);
+    let written = sheet_in(edition, (how % 2) as u8, seed, buf);
+    spoil(buf, how / 65536 % 65536, (how / 256 % 256) as u8);
+    let kept = lesser(written.count(), (65535 - how / 4294967296 % 65536) as usize);
+    lesser(kept, buf.len())
+}
+
+// A fold of what is read of a spoiled sheet and written again.
+fn reread_fold(seed: u64, how: u64) -> u64 {
     let mut buf = [0u8; SHEET_MOST];
-    let written = sheet_in(edition, (how % 2) as u8, seed, &mut buf);
-    spoil(&mut buf, how / 65536 % 65536, (how / 256 % 256) as u8);
-    match written {
-        Written::Bytes(n) => {
-            let kept = lesser(n, (65535 - how / 4294967296 % 65536) as usize);
-            again_fold(&buf, kept)
-        }
-        Written::Refused(_) => u64::MAX,
-    }
+    let n = put_spoiled(&mut buf, seed, how);
+    both_fold(&buf[..n])
+}
+
+// A fold of what a spoiled sheet becomes in an edition.
+fn converted_fold(wanted: Edition, seed: u64, how: u64) -> u64 {
+    let mut sheet = [0u8; SHEET_MOST];
+    let n = put_spoiled(&mut sheet, seed, how);
+    let mut buf = [0u8; SHEET_MOST];
+    let written = convert(&sheet[..n], wanted, &mut buf);
+    written_fold(written, &buf)
 }
 
 // Our answer; the largest number for a letter that asks nothing.
@@ -249,6 +257,8 @@ pub fn answer(what: u8, a: u64, b: u64) -> u64 {
         b'N' => paper_fold(1, a, b),
         b'L' => list_fold(a, b),
         b'R' => reread_fold(a, b),
+        b'O' => converted_fold(Edition::One, a, b),
+        b'T' => converted_fold(Edition::Two, a, b),
         _ => u64::MAX,
     }
 }

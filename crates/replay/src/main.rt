@@ -82,5 +82,6 @@ fn main() {
     replay(b"pages");
     replay(b"halls");
     replay(b"sheets");
+    replay(b"editions");
     replay(b"wrong");
 }
