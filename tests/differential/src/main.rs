@@ -21,6 +21,7 @@ mod seqochanu;
 
 mod bytes;
 mod calls;
+mod convert;
 mod draws;
 mod early;
 mod edition;
@@ -58,11 +59,13 @@ fn compare(from: u64, to: u64) -> Tally {
         pages::compare_seed(&mut tally, seed);
         halls::compare_seed(&mut tally, seed);
         reread::compare_seed(&mut tally, seed);
+        convert::compare_seed(&mut tally, seed);
         if i % 15 == 0 {
             made::compare_seed(&mut tally, seed);
             hits::compare_seed(&mut tally, seed);
             halls::compare_longest(&mut tally, seed);
             reread::compare_made(&mut tally, seed);
+            convert::compare_made(&mut tally, seed);
         }
     }
     tally
@@ -102,6 +105,7 @@ fn main() {
     pages::compare_edges(&mut edges);
     halls::compare_edges(&mut edges);
     reread::compare_edges(&mut edges);
+    convert::compare_edges(&mut edges);
     program::paper::compare_edges(&mut edges, paper);
     program::hall::compare_edges(&mut edges, hall);
     let all = edges.join(compare_all(start, count));

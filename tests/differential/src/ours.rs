@@ -2,8 +2,10 @@
 //! behind safe wrappers. A slice passes as a pointer and a length; no function asks more of its caller.
 
 use crate::compose::reach::form::Parts;
+use crate::edition::Edition;
 use crate::seqochanu::raw::{
     seqochanu_bar_page, seqochanu_hall_list, seqochanu_reread, seqochanu_sheet,
+    seqochanu_to_edition_1, seqochanu_to_edition_2,
 };
 
 mod raw {
@@ -146,6 +148,15 @@ pub fn hall_list(hall: u64, count: u64, buf: &mut [u8]) -> i64 {
 pub fn reread(sheet: &[u8], buf: &mut [u8]) -> i64 {
     let (sheet, sheet_len) = (sheet.as_ptr(), sheet.len());
     unsafe { seqochanu_reread(sheet, sheet_len, buf.as_mut_ptr(), buf.len()) }
+}
+
+pub fn to_edition(sheet: &[u8], wanted: Edition, buf: &mut [u8]) -> i64 {
+    let call = match wanted {
+        Edition::One => seqochanu_to_edition_1,
+        Edition::Two => seqochanu_to_edition_2,
+    };
+    let (sheet, sheet_len) = (sheet.as_ptr(), sheet.len());
+    unsafe { call(sheet, sheet_len, buf.as_mut_ptr(), buf.len()) }
 }
 
 /// Minus the number of the refusal, or the sheet's own length: the call says of what it wrote only that it did.

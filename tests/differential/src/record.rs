@@ -5,9 +5,10 @@ use crate::bytes::{front, page, sheet};
 use crate::compose::reach::form::plays_at;
 use crate::compose::reach::{STAGES, STYLES, Take, coin, kicks, pick, take};
 use crate::compose::{Form, arrange};
+use crate::convert::Song;
 use crate::draws::stream_with;
 use crate::dsp::reach::{next_u64, seed_of, stream};
-use crate::edition::{Edition, PAGE_MOST, SHEET_MOST};
+use crate::edition::{EDITIONS, Edition, PAGE_MOST, SHEET_MOST};
 use crate::halls::{HALLS, LIST_MOST, list};
 use crate::reread::judge::judge;
 use crate::scores::unbeaten;
@@ -139,8 +140,11 @@ fn hall_lines(lines: &mut Vec<Line>, hall: u64) {
 /// How many bytes are kept of a sheet that is not cut off.
 const WHOLE: usize = 65535;
 
-/// How a sheet is spoiled, in one word: its style and edition, a byte put at a place, and how many bytes are kept.
-fn spoiled(edition: Edition, style: u8, place: Option<(usize, u8)>, kept: usize) -> u64 {
+/// How a sheet is spoiled: a byte put at a place, and how many bytes are kept.
+type Spoil = (Option<(usize, u8)>, usize);
+
+/// That in one word, with the sheet's style and edition.
+fn spoiled(edition: Edition, style: u8, (place, kept): Spoil) -> u64 {
     let first = u64::from(edition == Edition::One);
     let (place, byte) = place.map_or((0, 0), |(place, byte)| (place as u64 + 1, byte));
     let cut = (WHOLE - kept) as u64;
@@ -160,37 +164,78 @@ fn places(sheet: &[u8]) -> BTreeSet<usize> {
     places
 }
 
+/// A line of this letter for a song's sheet that is spoiled: a fold of what is written of it, or document 02's refusal.
+fn spoiled_line(
+    what: char,
+    (song, edition): (&Song, Edition),
+    spoil: Spoil,
+    written: impl Fn(&[u8]) -> Result<Vec<u8>, i64>,
+) -> Line {
+    let (mut bytes, (place, kept)) = (song.sheet(edition).to_vec(), spoil);
+    if let Some((place, byte)) = place {
+        bytes[place] = byte;
+    }
+    bytes.truncate(kept);
+    let answer = match written(&bytes) {
+        Ok(bytes) => byte_fold(&bytes, SHEET_MOST),
+        Err(number) => number as u64,
+    };
+    let b = spoiled(edition, song.style, spoil);
+    (what, song.seed, b, answer)
+}
+
 /// R: a fold of what is read of the sheet of the song seed a, spoiled as b tells, and written again, or document 02's
 /// refusal: the whole sheet; the sheet cut off; one byte of it changed, at each of the places; and a bad style in a
 /// sheet that is cut off.
 fn reread_lines(lines: &mut Vec<Line>, edition: Edition, seed: u64) {
-    let form = arrange(seed);
     for style in 0..2 {
-        let take = take(STYLES[usize::from(style)], seed);
-        let sheet = sheet(edition, style, seed, &take, &form);
+        let song = Song::of(style, seed);
+        let sheet = song.sheet(edition);
         let mut ask = |place: Option<(usize, u8)>, kept: usize| {
-            let mut bytes = sheet.clone();
-            if let Some((place, byte)) = place {
-                bytes[place] = byte;
-            }
-            bytes.truncate(kept);
-            let answer = match judge(&bytes) {
-                Ok(()) => byte_fold(&bytes, SHEET_MOST),
-                Err(number) => number as u64,
-            };
-            lines.push(('R', seed, spoiled(edition, style, place, kept), answer));
+            let read = |bytes: &[u8]| judge(bytes).map(|()| bytes.to_vec());
+            lines.push(spoiled_line('R', (&song, edition), (place, kept), read));
         };
         ask(None, WHOLE);
         for kept in [0, 1, 4, 12, sheet.len() - 1] {
             ask(None, kept);
         }
-        for place in places(&sheet) {
+        for place in places(sheet) {
             for byte in [0, 1, 6, 7, 0x7f, 0xff] {
                 ask(Some((place, byte)), WHOLE);
             }
         }
         let style_at = front(edition).len() + 3;
         ask(Some((style_at, 2)), sheet.len() - 1);
+    }
+}
+
+/// The sheet left whole; cut off by a byte; and one byte of it changed, at each of the places: its lowest bit, and to
+/// 255.
+fn whole_and_spoiled(sheet: &[u8]) -> Vec<Spoil> {
+    let mut all = vec![(None, WHOLE), (None, sheet.len() - 1)];
+    for place in places(sheet) {
+        let others = BTreeSet::from([sheet[place] ^ 1, 0xff]).into_iter();
+        let others = others.filter(|&byte| byte != sheet[place]);
+        all.extend(others.map(|byte| (Some((place, byte)), WHOLE)));
+    }
+    all
+}
+
+/// O, T: a fold of what the sheet of the song seed a, spoiled as b tells, becomes in edition 1 and in edition 2, or
+/// document 02's refusal: each sheet of the seed, spoiled in each of these ways.
+fn edition_lines(lines: &mut Vec<Line>, seed: u64, spoils: impl Fn(&[u8]) -> Vec<Spoil>) {
+    let wanted = [('O', Edition::One), ('T', Edition::Two)];
+    for style in 0..2 {
+        let song = Song::of(style, seed);
+        for edition in EDITIONS {
+            let asked = spoils(song.sheet(edition)).into_iter();
+            lines.extend(asked.flat_map(|spoil| {
+                wanted.map(|(what, wanted)| {
+                    let written = |bytes: &[u8]| song.converted(bytes, wanted);
+                    spoiled_line(what, (&song, edition), spoil, written)
+                })
+            }));
+        }
     }
 }
 
@@ -231,4 +276,10 @@ pub fn write(folder: &str) {
     }
     reread_lines(&mut sheets, Edition::One, 0);
     write_lines(folder, "sheets", &sheets);
+    let mut editions = Vec::new();
+    edition_lines(&mut editions, 0, whole_and_spoiled);
+    for seed in [389_849, u64::MAX] {
+        edition_lines(&mut editions, seed, |_| vec![(None, WHOLE)]);
+    }
+    write_lines(folder, "editions", &editions);
 }

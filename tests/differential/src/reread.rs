@@ -1,11 +1,11 @@
 //! Sheets read and written again: the answer, every byte written, and every byte that must stay. What is written is
 //! what was read, byte for byte; which bytes are a sheet says the driver's own reader.
 
-mod by_hand;
-mod edges;
-mod faults;
+pub mod by_hand;
+pub mod edges;
+pub mod faults;
 pub mod judge;
-mod sheets;
+pub mod sheets;
 
 use crate::bytes::sheet;
 use crate::calls::compare_call;

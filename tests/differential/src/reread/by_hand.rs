@@ -263,7 +263,7 @@ pub fn bytes(edition: Edition) -> Vec<u8> {
 }
 
 /// The sheet with other bytes in a field.
-fn changed(sheet: &[u8], tag: u8, at: usize, bytes: &[u8]) -> Vec<u8> {
+pub fn changed(sheet: &[u8], tag: u8, at: usize, bytes: &[u8]) -> Vec<u8> {
     let mut from = 0;
     while sheet[from] != tag {
         from += 3 + usize::from(u16::from_be_bytes([sheet[from + 1], sheet[from + 2]]));

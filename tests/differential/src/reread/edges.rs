@@ -31,7 +31,7 @@ fn short(edition: Edition) -> Bodies {
 }
 
 /// The sheet with as many events and bars as one can have, and a scale of six.
-fn longest(edition: Edition) -> Bodies {
+pub fn longest(edition: Edition) -> Bodies {
     let mut sheet = Draws::of(1).sheet(edition, COUNTS_MOST, LONG);
     sheet.set(0x04, vec![11, 0, 2, 5, 7, 9]);
     let (len, most) = (sheet.bytes().len(), edition.sheet_most());

@@ -163,7 +163,7 @@ impl Draws {
         Draws(stream(seed, 0))
     }
 
-    fn word(&mut self) -> u64 {
+    pub fn word(&mut self) -> u64 {
         next_u64(&mut self.0)
     }
 
@@ -171,7 +171,7 @@ impl Draws {
         (self.word() % n as u64) as usize
     }
 
-    fn byte_below(&mut self, n: u8) -> u8 {
+    pub fn byte_below(&mut self, n: u8) -> u8 {
         self.below(n.into()) as u8
     }
 
@@ -184,7 +184,7 @@ impl Draws {
     }
 
     /// Any finite number; every other time an odd one.
-    fn float(&mut self) -> [u8; 4] {
+    pub fn float(&mut self) -> [u8; 4] {
         let word = self.word();
         let drawn = (word >> 32) as u32;
         let bits = if word % 2 == 0 {
