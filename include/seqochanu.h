@@ -1,21 +1,23 @@
-/* The sheet and the bar page of a song, sheets read back, and the seeds of a hall's papers, as bytes in a buffer of
- * the caller's.
+/* The sheet and the bar page of a song, sheets read back, sheets turned from one edition into the other, and the seeds
+ * of a hall's papers, as bytes in a buffer of the caller's.
  *
  * A song is named by a style, 0 hiphop or 1 sleep, and a 64-bit seed, which is its paper number. A hall list is named
  * by a 64-bit hall number and a count of seeds. Each function answers how many bytes it wrote, from buf[0] on, or
  * minus the number of a refusal:
  *
  *   -1  no such style
- *   -2  the buffer is shorter than this very sheet, page or list
+ *   -2  the buffer is shorter than the very sheet, page or list that is due
  *   -3  the song has no such bar
  *   -6  the count is outside 1 to 4,096
  *   -7  a field of the sheet is missing, cut off, misplaced or trailing, or has a length that no sheet has there, or
  *       0x00 has another body than 2
  *   -8  a value of the sheet is out of range, a note's role among them, or its field 0x0A has another length than
  *       the song
+ *   -9  the sheet is not, byte for byte, the one that its style and seed give in its edition
  *
- * Sheets and pages are written in edition 2: they begin with the field 0x00, and each note ends with its role. A sheet
- * whose first byte is not 0x00 is of edition 1, whose notes have no roles. It is still read. docs/FORMAT.md has both.
+ * The first two functions write edition 2: sheet and page begin with the field 0x00, and each note ends with its role.
+ * A sheet whose first byte is not 0x00 is of edition 1, whose notes have no roles. It is still read, and the last two
+ * functions turn a song's sheet of either edition into the other. docs/FORMAT.md has both editions.
  *
  * A refusal writes nothing; bytes beyond those written keep their values. No function keeps anything between calls,
  * so calls with different buffers may run at the same time, also where they read the same sheet. Nothing is allocated:
@@ -59,6 +61,19 @@ int64_t seqochanu_hall_list(uint64_t hall, uint64_t count, uint8_t *buf, size_t 
  * before a bad value anywhere. Nothing is composed: a sheet may be read that no style and seed give. With a buffer of
  * no bytes, -2 says that the bytes are a sheet. docs/FORMAT.md says which are. */
 int64_t seqochanu_reread(const uint8_t *sheet, size_t sheet_len, uint8_t *buf, size_t len);
+
+/* Takes a song's sheet of either edition, writes that song's sheet in edition 1, so without the roles, and answers its
+ * length, which is at most 5,164; else -7, then -8, both as seqochanu_reread has them, then -9, then -2. The song is
+ * composed from the style and seed in the sheet's field 0x01, and -9 says that the sheet is not that song's: score,
+ * scale, form and, in edition 2, every role must be. A sheet that is in edition 1 already is held to the same, and
+ * what is written equals it. */
+int64_t seqochanu_to_edition_1(const uint8_t *sheet, size_t sheet_len, uint8_t *buf, size_t len);
+
+/* Does the same in edition 2, with the roles of the composed song; the length is at most SEQOCHANU_SHEET_MOST. By this
+ * call a library that holds sheets of edition 1 gives them their roles. A sheet that was turned into the other edition
+ * and back has the bytes that it had. With a buffer of no bytes, -2 says that the bytes are the sheet of their song;
+ * so does the function above. */
+int64_t seqochanu_to_edition_2(const uint8_t *sheet, size_t sheet_len, uint8_t *buf, size_t len);
 
 #ifdef __cplusplus
 }

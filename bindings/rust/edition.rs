@@ -1,6 +1,7 @@
 //! The two editions of the sheet: all in which their bytes differ.
 
-/// How a sheet is laid out. Songs' sheets are of the second edition; those of the first are still read.
+/// How a sheet is laid out. `sheet` writes the second edition; sheets of the first are still read, and `convert` turns
+/// each into the other.
 #[derive(Clone, Copy, Debug, PartialEq, Eq)]
 pub enum Edition {
     /// its notes have no roles

@@ -4,23 +4,6 @@ use super::*;
 
 const OPENING: [u8; 4] = [0, 0, 1, 2];
 
-/// The bytes of a song's sheet as edition 1 has them: without the field 0x00, and without the last byte of each note.
-/// None of the code that is tested lays them out.
-fn in_edition_1(sheet: &[u8]) -> Vec<u8> {
-    let mut bytes = vec![];
-    for (tag, body) in fields(sheet).into_iter().skip(1) {
-        let body = match tag {
-            5 | 6 | 8 => body.chunks(15).map(|note| &note[..14]).collect(),
-            _ => vec![body],
-        }
-        .concat();
-        bytes.push(tag);
-        bytes.extend((body.len() as u16).to_be_bytes());
-        bytes.extend(body);
-    }
-    bytes
-}
-
 /// The bytes of a bare sheet of edition 1 whose field 0x05 has this body.
 fn with_lead(body: &[u8]) -> Vec<u8> {
     let bytes = bare(Edition::One).laid_out();

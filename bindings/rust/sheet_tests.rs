@@ -2,7 +2,7 @@
 //! editions_tests.rs, which use the sheets that are made here, test what each byte means and in what the editions
 //! differ.
 
-use super::super::tests::{fields, marked, songs};
+use super::super::tests::{EDITIONS, in_edition_1, marked, songs};
 use super::super::{raw, sheet_vec};
 use super::*;
 
@@ -10,8 +10,6 @@ use super::*;
 mod editions;
 #[path = "sheet_values_tests.rs"]
 mod values;
-
-const EDITIONS: [Edition; 2] = [Edition::One, Edition::Two];
 
 const SILENT: Plays = Plays {
     pad: false,
