@@ -3,8 +3,8 @@
 #include <stddef.h>
 #include <stdint.h>
 
-/* The tags of the fields that have notes. */
-enum { LEAD = 0x05, KEYS = 0x06, BASS = 0x08 };
+/* The tag of the field that has the lead notes. */
+enum { LEAD = 0x05 };
 
 /* The bytes of a field before its body, of a note, and of a note before its MIDI number and its role. */
 enum { HEAD = 3, NOTE = 15, NOTE_MIDI = 5, NOTE_ROLE = 14 };

@@ -15,39 +15,6 @@
 #include "fields.h"
 #include "words.h"
 
-/* Puts what edition 1 has of a field to another place, at or before its own: all but the roles of notes. Answers the
- * length there. */
-static size_t put_field(const uint8_t *field, uint8_t *to) {
-    uint8_t tag = field[0];
-    int has_notes = tag == LEAD || tag == KEYS || tag == BASS;
-    size_t body = body_length(field), kept = 0, i;
-
-    for (i = 0; i < body; i++) {
-        if (!has_notes || i % NOTE != NOTE_ROLE) {
-            to[HEAD + kept++] = field[HEAD + i];
-        }
-    }
-    to[0] = tag;
-    to[1] = (uint8_t)(kept >> 8);
-    to[2] = (uint8_t)kept;
-    return HEAD + kept;
-}
-
-/* Turns a song's sheet into one of edition 1, which has no field 0x00 and no roles, with zeros behind it. Answers its
- * length. */
-static size_t to_edition_1(uint8_t *sheet, size_t length) {
-    size_t from = HEAD + body_length(sheet), to = 0;
-
-    while (from < length) {
-        size_t field = HEAD + body_length(sheet + from);
-
-        to += put_field(sheet + from, sheet + to);
-        from += field;
-    }
-    memset(sheet + to, 0, length - to);
-    return to;
-}
-
 static void print_fields(const uint8_t *sheet, int64_t length) {
     int64_t at = 0;
 
@@ -71,7 +38,8 @@ static void print_read(const uint8_t *sheet, size_t length, size_t room) {
 }
 
 int main(int argc, char **argv) {
-    static uint8_t sheet[SEQOCHANU_SHEET_MOST];
+    static uint8_t song[SEQOCHANU_SHEET_MOST], old[SEQOCHANU_SHEET_MOST];
+    uint8_t *sheet = song;
     int is_old = argc > 1 && strcmp(argv[1], "-1") == 0;
     uint64_t paper, place;
     uint8_t style, byte;
@@ -86,14 +54,15 @@ int main(int argc, char **argv) {
     }
     paper = number(argc, argv, 1, UINT64_MAX, 0);
     style = (uint8_t)number(argc, argv, 2, UINT8_MAX, 0);
-    length = (size_t)number(argc, argv, 3, sizeof sheet, 0);
-    room = (size_t)number(argc, argv, 4, sizeof sheet, sizeof sheet);
-    place = number(argc, argv, 5, sizeof sheet - 1, 0);
+    length = (size_t)number(argc, argv, 3, sizeof song, 0);
+    room = (size_t)number(argc, argv, 4, sizeof song, sizeof song);
+    place = number(argc, argv, 5, sizeof song - 1, 0);
     byte = (uint8_t)number(argc, argv, 6, UINT8_MAX, 0);
 
-    count = written("sheet", seqochanu_sheet(style, paper, sheet, sizeof sheet));
+    count = written("sheet", seqochanu_sheet(style, paper, song, sizeof song));
     if (is_old) {
-        count = (int64_t)to_edition_1(sheet, (size_t)count);
+        count = written("sheet of edition 1", seqochanu_to_edition_1(song, (size_t)count, old, sizeof old));
+        sheet = old;
     }
     printf("sheet: %lld bytes\n", (long long)count);
     if (argc <= 3) {

@@ -13,6 +13,7 @@ static const char *refusal(int64_t answer) {
     case -6: return "the count is outside 1 to 4,096";
     case -7: return "a field is missing, cut off, misplaced or trailing, or has a length or edition that no sheet has";
     case -8: return "a value is out of range, or the field 0x0A has another length than the song";
+    case -9: return "the sheet is not, byte for byte, the one that its style and seed give in its edition";
     default: return "an answer that the header does not have";
     }
 }
