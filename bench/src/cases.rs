@@ -6,7 +6,7 @@ use crate::compose::song::{Song, song};
 use crate::compose::{Form, arrange};
 use crate::seqochanu::raw::seqochanu_hall_list;
 use crate::seqochanu::{
-    self, COUNT_MOST, Edition, LIST_MOST, PAGE_MOST, Refusal, Role, SHEET_MOST, Sheet, Style,
+    self, COUNT_MOST, Edition, LIST_MOST, PAGE_MOST, Refusal, SHEET_MOST, Sheet, Style,
 };
 use crate::{sum, writer};
 use std::hint::black_box;
@@ -47,7 +47,8 @@ impl Asked {
         let bars = arrange(seed).bars() as u64;
         // kept to the end of the run, so that a round finds the sheets made
         let sheet = seqochanu::sheet_vec(ours(style), seed).leak();
-        let old_sheet = in_edition_1(sheet).leak();
+        let old_sheet = seqochanu::convert_vec(sheet, Edition::One);
+        let old_sheet = old_sheet.expect("a song's sheet").leak();
         Self {
             style,
             seed,
@@ -74,16 +75,6 @@ impl Asked {
 
 fn ours(style: u8) -> Style {
     Style::try_from(style).expect("both styles are asked for")
-}
-
-/// A song's sheet in edition 1, where no note has a role.
-fn in_edition_1(sheet: &[u8]) -> Vec<u8> {
-    let mut sheet = Sheet::parse(sheet).expect("a song's sheet");
-    sheet.edition = Edition::One;
-    for note in &mut sheet.lead {
-        note.role = Role::Backing;
-    }
-    sheet.to_bytes().expect("a sheet of edition 1")
 }
 
 /// One of a song's sheets.
@@ -322,11 +313,24 @@ fn round_tripping() -> Case {
     beside_composing(name, Some(|a| a.sheet), side("reading and writing", trip))
 }
 
+/// A sheet of edition 1 converted to edition 2, as a library's are: it is read, its song composed, and both its sheets
+/// are written, one to be compared with what was read.
+fn converting() -> Case {
+    let mut buf = [0; SHEET_MOST];
+    let converting = move |a: Asked| {
+        let answer = seqochanu::convert(a.old_sheet, Edition::Two, &mut buf);
+        let len = answer.expect("a song's sheet, and room");
+        black_box(&buf)[..len].len() as u64
+    };
+    let name = "sheet of edition 1 converted to edition 2";
+    beside_composing(name, Some(|a| a.old_sheet), side("converting", converting))
+}
+
 pub fn of_songs() -> [Case; 3] {
     [songs(), sheets(), pages()]
 }
 
-pub fn of_readings() -> [Case; 6] {
+pub fn of_readings() -> [Case; 7] {
     [
         reading("sheet read", |a| a.sheet, true),
         reading("sheet read from memory", |a| a.sheet, false),
@@ -334,6 +338,7 @@ pub fn of_readings() -> [Case; 6] {
         rereading(),
         reading_a_song(),
         round_tripping(),
+        converting(),
     ]
 }
 
@@ -369,7 +374,8 @@ pub fn check(a: Asked) {
     assert_eq!(bars, a.bars, "the pages {what}");
 }
 
-/// Stops where a song's sheet, of either edition, is not read, or is not written again byte for byte.
+/// Stops where a song's sheet, of either edition, is not read, or is not written again byte for byte, or does not become
+/// the sheet of the other edition.
 pub fn check_reading(a: Asked) {
     let what = format!("the sheet of {:#x} in style {}", a.seed, a.style);
     for sheet in a.sheets() {
@@ -383,6 +389,8 @@ pub fn check_reading(a: Asked) {
         again.iter_mut().for_each(|byte| *byte = !*byte);
         assert_eq!(roundtrip(sheet, &mut again), 0, "{what}");
         assert_eq!(again, sheet, "{what}, by its song");
+        let both = [Edition::Two, Edition::One].map(|wanted| seqochanu::convert_vec(sheet, wanted));
+        assert_eq!(both, a.sheets().map(|sheet| Ok(sheet.into())), "{what}");
     }
 }
 

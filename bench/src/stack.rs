@@ -4,6 +4,7 @@
 use crate::cases::Asked;
 use crate::seqochanu::raw::{
     seqochanu_bar_page, seqochanu_hall_list, seqochanu_reread, seqochanu_sheet,
+    seqochanu_to_edition_1, seqochanu_to_edition_2,
 };
 use crate::seqochanu::{COUNT_MOST, LIST_MOST, PAGE_MOST, SHEET_MOST};
 
@@ -73,18 +74,32 @@ fn pages(songs: &[Asked]) -> usize {
     all.last().expect("a page")
 }
 
-/// A reading or a list may take less stack than is left for this module, so its calls need a frame below that: the
-/// buffer has one.
+/// A call that takes a sheet, over the sheets of both editions. A reading or a list may take less stack than is left for
+/// this module, so its calls need a frame below that: the buffer has one.
 #[inline(never)]
-fn rereadings(songs: &[Asked]) -> usize {
+fn of_sheets(function: usize, songs: &[Asked]) -> usize {
     let mut buf = [0u8; SHEET_MOST];
     let (bytes, len) = (buf.as_mut_ptr() as u64, SHEET_MOST as u64);
-    let function = seqochanu_reread as *const () as usize;
     let all = songs.iter().flat_map(|a| a.sheets()).map(|sheet| {
         let (sheet, sheet_len) = (sheet.as_ptr() as u64, sheet.len() as u64);
         call(function, [sheet, sheet_len, bytes, len, 0])
     });
     all.last().expect("a sheet")
+}
+
+/// The calls that take a sheet.
+fn sheet_calls() -> [(&'static str, usize); 3] {
+    [
+        ("seqochanu_reread", seqochanu_reread as *const () as usize),
+        (
+            "seqochanu_to_edition_1",
+            seqochanu_to_edition_1 as *const () as usize,
+        ),
+        (
+            "seqochanu_to_edition_2",
+            seqochanu_to_edition_2 as *const () as usize,
+        ),
+    ]
 }
 
 #[inline(never)]
@@ -103,10 +118,10 @@ pub fn report(songs: Vec<Asked>) {
     let measure = move || {
         println!("seqochanu_sheet: took {} bytes", taken(|| sheets(&songs)));
         println!("seqochanu_bar_page: took {} bytes", taken(|| pages(&songs)));
-        println!(
-            "seqochanu_reread: took {} bytes",
-            taken(|| rereadings(&songs))
-        );
+        for (name, function) in sheet_calls() {
+            let bytes = taken(|| of_sheets(function, &songs));
+            println!("{name}: took {bytes} bytes");
+        }
         println!(
             "seqochanu_hall_list: took {} bytes",
             taken(|| lists(&songs))
