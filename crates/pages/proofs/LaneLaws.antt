@@ -4,6 +4,7 @@ use mathlib.Core.Path.{_≡_, refl, sym, ap, _∙_}
 use mathlib.Core.Bool.{Bool, true, false}
 use mathlib.Core.List.{List, [], _++_, map, map-map}
 use Prim.Native.Nat.{ℕ, _+_, _-_, _*_, _≤_, _<_}
+use native.Mathlib.Nat.{sub-zero}
 use native.Mathlib.Omega.{arith}
 use lib.Dec.{eqb, ltb}
 use lib.ListN.{length, getD, take, drop}
@@ -17,9 +18,11 @@ use Rattle.composer.specs.declared.note.Hit.{Hit}
 use Rattle.composer.specs.declared.note.Note.{Note}
 use Rattle.composer.specs.declared.score.Score.{Score}
 use Rattle.pages.specs.Bar.{shown}
+use Rattle.pages.specs.Bytes.{field}
 use Rattle.pages.specs.Edition.{noteWidth}
-use Rattle.pages.specs.Lane.{widthOf, countIn, soundBytes, noteBytes, hitBytes, barIn, eventsOf, runOf, InLane, barsOf, earlier, drawnFor, runIn}
+use Rattle.pages.specs.Lane.{tagOf, widthOf, countIn, laneSize, soundBytes, noteBytes, hitBytes, barIn, eventsOf, runOf, InLane, barsOf, earlier, drawnFor, runIn}
 use Rattle.pages.specs.Page.{barSize}
+use Rattle.pages.specs.Sheet.{laneField}
 use Rattle.pages.specs.Writable.{SizedLanes}
 use Rattle.pages.specs.declared.edition.Edition.{Edition}
 use Rattle.pages.specs.declared.lane.Lane.{Lane}
@@ -85,7 +88,7 @@ width-small edition Lane.Hits n h = omega arith
 width-small edition Lane.Bass n h = notes-small edition n h
 
 -- the whole of a list as a run
-pub whole-run : (es : List (List ℕ)) (n : ℕ) → length es ≡ n → runOf (record { from = 0; to = n }) es ≡ es
+whole-run : (es : List (List ℕ)) (n : ℕ) → length es ≡ n → runOf (record { from = 0; to = n }) es ≡ es
 whole-run es n e = take-all (n - 0) es (omega arith)
 
 -- ---- a run of a lane of n events: written up to event i, and event i after it
@@ -136,6 +139,12 @@ module _ (s : Score) (p : SizedLanes s) where
   length-events edition Lane.Keys = length-map-take (noteBytes edition) (s .keys) (s .«keys_count») keys-room
   length-events edition Lane.Hits = length-map-take hitBytes (s .hits) (s .«hit_count») hits-room
   length-events edition Lane.Bass = length-map-take (noteBytes edition) (s .bass) (s .«bass_count») bass-room
+
+  -- a run of all events is the lane's field
+  pub lane-wrote : (edition : Edition) (lane : Lane) {b b′ : List ℕ} {at r : ℕ}
+      → Wrote b b′ at r (3 + widthOf edition lane * (countIn s lane - 0)) (field (tagOf lane) (joined (runOf (record { from = 0; to = countIn s lane }) (eventsOf edition s lane))))
+      → Wrote b b′ at r (3 + laneSize edition s lane) (laneField edition s lane)
+  lane-wrote edition lane w = rw (whole-run (eventsOf edition s lane) (countIn s lane) (length-events edition lane), sub-zero (countIn s lane)) at w
 
   pub length-bars : (lane : Lane) → length (barsOf s lane) ≡ countIn s lane
   length-bars Lane.Lead = length-map-take noteBar (s .lead) (s .«lead_count») lead-room

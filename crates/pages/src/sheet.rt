@@ -107,27 +107,33 @@ fn put_song(buf: &mut [u8], at: usize, seed: u64, s: Score, scale: Scale) -> usi
     put_scale(buf, c, scale)
 }
 
-// A whole lane.
-fn put_lane(buf: &mut [u8], at: usize, edition: Edition, s: Score, lane: Lane) -> usize
-    requires { ⌜ Writable s ⌝ }
-    requires { ⌜ at + (3 + laneSize edition s lane) ≤ length (now buf) ⌝ }
-    ensures { λ r. ⌜ Wrote (now (buf .entry)) (now (buf .exit)) at r (3 + laneSize edition s lane) (laneField edition s lane) ⌝ }
-{
-    let n = lane.count(s);
-    let run = Run { from: 0, to: n };
-    put_run(buf, at, edition, s, lane, run)
-}
-
-// 0x05 to 0x08: the lanes.
+// 0x05 to 0x08: the lanes, each a run of all its events. A function for a whole lane would stay one where sheets of
+// both editions are written, and copy the score at each of four calls.
 fn put_lanes(buf: &mut [u8], at: usize, edition: Edition, s: Score) -> usize
     requires { ⌜ Writable s ⌝ }
     requires { ⌜ at + lanesSize edition s ≤ length (now buf) ⌝ }
     ensures { λ r. ⌜ Wrote (now (buf .entry)) (now (buf .exit)) at r (lanesSize edition s) (lanesBytes edition s) ⌝ }
 {
-    let a = put_lane(buf, at, edition, s, Lane::Lead);
-    let b = put_lane(buf, a, edition, s, Lane::Keys);
-    let c = put_lane(buf, b, edition, s, Lane::Hits);
-    put_lane(buf, c, edition, s, Lane::Bass)
+    let lead = Run {
+        from: 0,
+        to: s.lead_count,
+    };
+    let keys = Run {
+        from: 0,
+        to: s.keys_count,
+    };
+    let hits = Run {
+        from: 0,
+        to: s.hit_count,
+    };
+    let bass = Run {
+        from: 0,
+        to: s.bass_count,
+    };
+    let a = put_run(buf, at, edition, s, Lane::Lead, lead);
+    let b = put_run(buf, a, edition, s, Lane::Keys, keys);
+    let c = put_run(buf, b, edition, s, Lane::Hits, hits);
+    put_run(buf, c, edition, s, Lane::Bass, bass)
 }
 
 fn flag(on: bool) -> u8

@@ -1,6 +1,4 @@
 -- A song that is not refused has what its sheet asks for, by the promises of compose and arrange. Assumes nothing.
-use mathlib.Core.Path.{_≡_}
-use Rattle.composer.specs.declared.refusal.Outcome.{Outcome}
 use Rattle.composer.proofs.ComposeLaws.{events-promise}
 use Rattle.composer.proofs.form.Arranged.{arranged-promise}
 use Rattle.pages.proofs.WritableLaws.{writable}
