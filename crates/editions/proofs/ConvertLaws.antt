@@ -1,7 +1,7 @@
 -- What becomes of a sheet that is read: 9 unless its song is that of the style and the seed that it names, and else
 -- what these give in the wanted edition. Assumes nothing.
 use mathlib.Core.Path.{_≡_, refl, sym, ap, _∙_}
-use mathlib.Core.Bool.{Bool, true, false, cond}
+use mathlib.Core.Bool.{Bool, true, false}
 use mathlib.Core.List.{List}
 use Prim.Native.Nat.{ℕ, _^_, _≤_, _<_}
 use native.Mathlib.Omega.{arith}
@@ -30,19 +30,19 @@ use Rattle.reader.specs.Song.{sheetOf}
 use Rattle.reader.specs.declared.song.Song.{Song}
 use Rattle.reader.proofs.EditionLaws.{sheet-is}
 use Rattle.reader.proofs.PromiseLaws.{reader-promise, reads-told}
-use Rattle.editions.specs.Convert.{sameBytes, namedAsked, heldAsked, convertAsked}
-use Rattle.editions.specs.Promise.{OfSeed, namedSong, namedSheet}
+use Rattle.editions.specs.Convert.{sameBytes, namedAsked, namedSheet, heldAsked, convertAsked}
+use Rattle.editions.specs.Promise.{OfSeed, namedSong}
 use Rattle.editions.proofs.SameLaws.{same-tells, same-self}
 
 -- ---- by the test
 module _ (wanted : Edition) (sheet : List ℕ) (v : Song) where
-  pub held-same : sameBytes sheet (bytesOf (namedAsked (v .edition) v)) ≡ true → heldAsked wanted sheet v ≡ namedAsked wanted v
-  unfolding heldAsked
-  held-same e = rw e
-
-  pub held-other : sameBytes sheet (bytesOf (namedAsked (v .edition) v)) ≡ false → heldAsked wanted sheet v ≡ Declines Refusal.OtherSong
+  pub held-other : sameBytes sheet (namedSheet (v .edition) v) ≡ false → heldAsked wanted sheet v ≡ Declines Refusal.OtherSong
   unfolding heldAsked
   held-other e = rw e
+
+  pub held-same : sameBytes sheet (namedSheet (v .edition) v) ≡ true → heldAsked wanted sheet v ≡ namedAsked wanted v
+  unfolding heldAsked
+  held-same e = rw e
 
 -- ---- a song by its parts
 pub song-by : (edition : Edition) (seed : ℕ) {s s′ : Score} {c c′ : Scale} {f f′ : Form} → s ≡ s′ → c ≡ c′ → f ≡ f′
@@ -74,7 +74,7 @@ module _ {sheet : List ℕ} {v : Song} (r : ReadAs sheet v) where
   song-asked : (edition : Edition) → namedAsked edition v ≡ Writes (sheetOf (namedSong edition v))
   song-asked edition = reader-promise .sheets edition (v .score .style) (v .seed) (r .small) .0
 
-  pub named-asked : (edition : Edition) → namedAsked edition v ≡ Writes (namedSheet edition v)
+  named-asked : (edition : Edition) → namedAsked edition v ≡ Writes (namedSheet edition v)
   named-asked edition = song-asked edition ∙ sym (ap (λ (a : Asked). Writes (bytesOf a)) (song-asked edition))
 
   pub named-reads : (edition : Edition) → Reads (namedSheet edition v) (namedSong edition v)
@@ -94,13 +94,13 @@ module _ {sheet : List ℕ} {v : Song} (r : ReadAs sheet v) where
 
   -- ---- what it becomes
   abbrev held : Bool
-  held = sameBytes sheet (bytesOf (namedAsked (v .edition) v))
+  held = sameBytes sheet (namedSheet (v .edition) v)
 
   seed-held : OfSeed v → held ≡ true
   seed-held o = rw (seed-asked o) (same-self sheet)
 
   held-seed : held ≡ true → OfSeed v
-  held-seed e = bytes-seed (same-tells sheet (bytesOf (namedAsked (v .edition) v)) e)
+  held-seed e = bytes-seed (same-tells sheet (namedSheet (v .edition) v) e)
 
   convert-held : (wanted : Edition) → convertAsked wanted sheet ≡ heldAsked wanted sheet v
   unfolding convertAsked
@@ -131,7 +131,7 @@ module _ {sheet : List ℕ} {v : Song} (r : ReadAs sheet v) where
 held-most : (wanted : Edition) (sheet : List ℕ) (v : Song) → length (bytesOf (heldAsked wanted sheet v)) ≤ sheetMost wanted
 unfolding heldAsked
 held-most wanted sheet v =
-    either (λ (a : Asked). length (bytesOf a) ≤ sheetMost wanted) (sameBytes sheet (bytesOf (namedAsked (v .edition) v))) (namedAsked wanted v) (Declines Refusal.OtherSong)
+    either (λ (a : Asked). length (bytesOf a) ≤ sheetMost wanted) (sameBytes sheet (namedSheet (v .edition) v)) (namedAsked wanted v) (Declines Refusal.OtherSong)
     (sheet-in-most wanted (styleNumberOf (v .score .style)) (v .seed)) (omega arith)
 
 pub convert-most : (wanted : Edition) (sheet : List ℕ) → length (bytesOf (convertAsked wanted sheet)) ≤ sheetMost wanted
@@ -151,5 +151,5 @@ module _ (v : Song) {number : ℕ} {song : Composed} (numbered : number ≡ styl
   composed-most edition = rw (composed-asked edition) (omega (arith, sheet-in-most edition (styleNumberOf (v .score .style)) (v .seed), edition-most edition))
 
   -- the test of it is the test of what v names
-  pub own-held : (sheet : List ℕ) {own : Bool} → own ≡ sameBytes sheet (bytesOf (sheetBy (v .edition) (v .seed) song)) → sameBytes sheet (bytesOf (namedAsked (v .edition) v)) ≡ own
+  pub own-held : (sheet : List ℕ) {own : Bool} → own ≡ sameBytes sheet (bytesOf (sheetBy (v .edition) (v .seed) song)) → sameBytes sheet (namedSheet (v .edition) v) ≡ own
   own-held sheet e = sym (e ∙ ap (λ (a : Asked). sameBytes sheet (bytesOf a)) (composed-asked (v .edition)))

@@ -3,7 +3,6 @@ use mathlib.Core.Path.{_≡_, refl, sym, ap, _∙_}
 use mathlib.Core.List.{List}
 use Prim.Native.Nat.{ℕ, _^_, _<_}
 use native.Mathlib.Omega.{arith}
-use lib.ListN.{length}
 use Rattle.composer.specs.Compose.{composedOf}
 use Rattle.composer.specs.Refusal.{Gives, answerBy}
 use Rattle.composer.specs.Style.{styleNumberOf}
@@ -17,13 +16,13 @@ use Rattle.pages.specs.declared.edition.Edition.{Edition}
 use Rattle.pages.proofs.AnswerLaws.{refused, call-answers, room-answers, asked-refused}
 use Rattle.reader.specs.Composed.{toldIn, composedSong}
 use Rattle.reader.specs.Promise.{Octets, Reads}
-use Rattle.reader.specs.Read.{readOf, readAnswered}
+use Rattle.reader.specs.Read.{readOf}
 use Rattle.reader.specs.Song.{sheetOf}
 use Rattle.reader.specs.declared.song.Song.{Song}
 use Rattle.reader.proofs.PromiseLaws.{reader-promise}
-use Rattle.editions.specs.Convert.{namedAsked, heldAsked, convertAsked}
-use Rattle.editions.specs.Promise.{Converts, Converted, SeedSheet, OfSeed, namedSong, namedSheet, unroled, ConverterPromise, ConvertAnswers}
-use Rattle.editions.proofs.ConvertLaws.{song-by, seed-song, ReadAs, read-as, seed-read, named-asked, named-reads, seed-asked, asked-seed, convert-seed, convert-bytes, convert-other, convert-taken}
+use Rattle.editions.specs.Convert.{namedAsked, namedSheet, heldAsked, convertAsked}
+use Rattle.editions.specs.Promise.{Converts, Converted, SeedSheet, OfSeed, namedSong, unroled, ConverterPromise, ConvertAnswers}
+use Rattle.editions.proofs.ConvertLaws.{song-by, seed-song, ReadAs, read-as, seed-read, named-reads, seed-asked, asked-seed, convert-seed, convert-bytes, convert-other, convert-taken}
 
 -- ---- the sheet of a seed
 told-style : (edition : Edition) (s : Score) → toldIn edition s .style ≡ s .style
@@ -79,7 +78,7 @@ module _ (wanted : Edition) (sheet bytes : List ℕ) (v : Song) (octets : Octets
   made = sym (convert-seed read wanted of) ∙ converts
 
   made-bytes : namedSheet wanted v ≡ bytes
-  made-bytes = ap bytesOf (sym (named-asked read wanted) ∙ made)
+  made-bytes = ap bytesOf made
 
   made-reads : Reads bytes (namedSong wanted v)
   made-reads = rw (← made-bytes) (named-reads read wanted)

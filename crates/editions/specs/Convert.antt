@@ -22,10 +22,13 @@ sameBytes a b = eqb (length a) (length b) && allTo (λ i. eqb (byteAt a i) (byte
 abbrev pub namedAsked : Edition → Song → Asked
 namedAsked edition v = sheetIn edition (styleNumberOf (v .score .style)) (v .seed)
 
+abbrev pub namedSheet : Edition → Song → List ℕ
+namedSheet edition v = bytesOf (namedAsked edition v)
+
 -- a sheet that names the song v: 9 unless it is, whole, what v's style and seed give in v's edition; else what they
 -- give in the wanted one
 unfoldable pub heldAsked : Edition → List ℕ → Song → Asked
-heldAsked wanted sheet v = cond (sameBytes sheet (bytesOf (namedAsked (v .edition) v))) (namedAsked wanted v) (Declines Refusal.OtherSong)
+heldAsked wanted sheet v = cond (sameBytes sheet (namedSheet (v .edition) v)) (namedAsked wanted v) (Declines Refusal.OtherSong)
 
 -- the reader's refusals come first; 2 for a short buffer comes last, in `writtenOf`
 unfoldable pub convertAsked : Edition → List ℕ → Asked

@@ -8,14 +8,14 @@ use Rattle.composer.specs.Form.Song.{arrangeOf}
 use Rattle.composer.specs.Refusal.{Gives, Refuses}
 use Rattle.composer.specs.Style.{styleNumberOf}
 use Rattle.composer.specs.declared.style.Style.{Style}
-use Rattle.pages.specs.Answer.{Writes, bytesOf, CallAnswers}
+use Rattle.pages.specs.Answer.{Writes, CallAnswers}
 use Rattle.pages.specs.Sheet.{sheetIn}
 use Rattle.pages.specs.declared.edition.Edition.{Edition}
 use Rattle.reader.specs.Composed.{toldIn, composedSong}
 use Rattle.reader.specs.Promise.{Octets, Reads}
 use Rattle.reader.specs.Read.{readOf, readAnswered}
 use Rattle.reader.specs.declared.song.Song.{Song}
-use Rattle.editions.specs.Convert.{namedAsked, convertAsked}
+use Rattle.editions.specs.Convert.{namedAsked, namedSheet, convertAsked}
 
 -- the converter takes the sheet and makes these bytes of it
 abbrev pub Converts : Edition → List ℕ → List ℕ → Type 0
@@ -41,12 +41,9 @@ pub record OfSeed (v : Song) : Type 0 where
   pub scale : v .scale ≡ composedOf (v .score .style) (v .seed) .scale
   pub form : v .form ≡ arrangeOf (v .seed)
 
--- the song, in an edition, of the style and the seed that v names, and its sheet
+-- the song, in an edition, of the style and the seed that v names
 abbrev pub namedSong : Edition → Song → Song
 namedSong edition v = composedSong edition (v .score .style) (v .seed)
-
-abbrev pub namedSheet : Edition → Song → List ℕ
-namedSheet edition v = bytesOf (namedAsked edition v)
 
 -- a song without its roles, as edition 1 tells it
 abbrev pub unroled : Song → Song

@@ -1,6 +1,5 @@
 -- The song is composed once, for the test and for what is written. Assumes nothing.
 use mathlib.Core.Path.{_∙_}
-use native.Mathlib.Omega.{arith}
 use Rattle.editions.proofs.ConvertLaws.{held-same, held-other, composed-promised, composed-asked, composed-most, own-held}
 use borrow.Author.Needs.{needs}
 use borrow.Author.Tests.{not-true, not-false}
