@@ -374,7 +374,7 @@ pub fn check(a: Asked) {
     assert_eq!(bars, a.bars, "the pages {what}");
 }
 
-/// Stops where a song's sheet, of either edition, is not read, or is not written again byte for byte, or does not become
+/// Stops where a song's sheet, of either edition, is not read, is not written again byte for byte, or does not become
 /// the sheet of the other edition.
 pub fn check_reading(a: Asked) {
     let what = format!("the sheet of {:#x} in style {}", a.seed, a.style);

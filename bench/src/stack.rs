@@ -74,8 +74,8 @@ fn pages(songs: &[Asked]) -> usize {
     all.last().expect("a page")
 }
 
-/// A call that takes a sheet, over the sheets of both editions. A reading or a list may take less stack than is left for
-/// this module, so its calls need a frame below that: the buffer has one.
+/// A call that takes a sheet, over the sheets of both editions. A reading or a list may take less stack than is left
+/// for this module, so its calls need a frame below that: the buffer has one.
 #[inline(never)]
 fn of_sheets(function: usize, songs: &[Asked]) -> usize {
     let mut buf = [0u8; SHEET_MOST];
