@@ -7,9 +7,10 @@ use borrow.Author.Tests.{eqb-true, eq-eqb}
 use lib.Dec.{eqb}
 use lib.ListN.{length}
 use lib.Seq.{ext-getD}
+use Rattle.laws.proofs.Bools.{both}
 use Rattle.pages.specs.Bytes.{byteAt}
 use Rattle.reader.specs.Tests.{allTo}
-use Rattle.reader.proofs.TestLaws.{both, all-to-at, all-to-by}
+use Rattle.reader.proofs.TestLaws.{all-to-at, all-to-by}
 use Rattle.editions.specs.Convert.{sameBytes}
 
 -- at one place

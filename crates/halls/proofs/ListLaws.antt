@@ -1,6 +1,6 @@
 -- A list's seeds stand at their places and are all different; and what every call for a list answers. Assumes nothing.
 use mathlib.Core.Path.{_≡_, refl, sym, ap, _∙_}
-use mathlib.Core.Bool.{Bool, true, false, _||_, true≢false}
+use mathlib.Core.Bool.{true, false}
 use mathlib.Core.Logic.{⊎-elim}
 use mathlib.Core.List.{List, [], _++_}
 use Prim.Native.Nat.{ℕ, zero, suc, _+_, _*_, _^_, _≤_, _<_}
@@ -13,7 +13,7 @@ use lib.ListN.{length, take, drop, length-append, length-drop}
 use lib.Seq.{drop-at, drop-append-le, take-append-le, take-all}
 use Rattle.laws.specs.Lists.{listTo, joined}
 use Rattle.laws.specs.Writes.{Wrote}
-use Rattle.laws.proofs.Bools.{cond-by}
+use Rattle.laws.proofs.Bools.{neither, cond-by}
 use Rattle.laws.proofs.Joins.{joined-snoc}
 use Rattle.streams.specs.Mix.{splitmixDrawOf}
 use Rattle.streams.proofs.StreamLaws.{new-word}
@@ -84,12 +84,8 @@ module _ (h : ℕ) where
   }
 
 -- ---- the range
-neither : (a b : Bool) → (a || b) ≡ false → b ≡ false
-neither true b e = absurd (true≢false e)
-neither false b e = e
-
 most-inside : (n : ℕ) → isOutside n ≡ false → n ≤ 4096
-most-inside n t = ltb-false 4096 n (neither (ltb n 1) (ltb 4096 n) t)
+most-inside n t = ltb-false 4096 n (neither (ltb n 1) (ltb 4096 n) t .1)
 
 inside : (n : ℕ) → 1 ≤ n → n ≤ 4096 → isOutside n ≡ false
 inside n l k = rw (le-ltb n 1 l, le-ltb 4096 n k)

@@ -1,6 +1,7 @@
 -- Tests that follow from one another. Assumes nothing.
-use mathlib.Core.Path.{_≡_, refl}
-use mathlib.Core.Bool.{Bool, true, false, not, _&&_, _||_, cond}
+use mathlib.Core.Path.{_≡_, refl, sym}
+use mathlib.Core.Bool.{Bool, true, false, not, _&&_, _||_, cond, true≢false}
+use mathlib.Core.Logic.{_⊎_, inl, inr}
 use Prim.Native.Nat.{ℕ, _≤_}
 use native.Mathlib.Omega.{arith}
 use mir.Val.{boolByte}
@@ -19,6 +20,19 @@ or-map false b false b′ i j u = j u
 pub and-map : (a b b′ : Bool) → (T b → T b′) → T (a && b) → T (a && b′)
 and-map true b b′ f t = f t
 and-map false b b′ f t = absurd t
+
+-- two tests that hold, one of two that does, and two that fail
+pub both : (a b : Bool) → (a && b) ≡ true → (a ≡ true) × (b ≡ true)
+both true b e = (refl, e)
+both false b e = (e, absurd (true≢false (sym e)))
+
+pub one-of : (a b : Bool) → (a || b) ≡ true → (a ≡ true) ⊎ (b ≡ true)
+one-of true b e = inl refl
+one-of false b e = inr e
+
+pub neither : (a b : Bool) → (a || b) ≡ false → (a ≡ false) × (b ≡ false)
+neither true b e = absurd (true≢false e)
+neither false b e = (refl, e)
 
 -- no test passes and fails
 pub clash : {v : Bool} → v ≡ true → v ≡ false → ⊥

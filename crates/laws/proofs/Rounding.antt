@@ -23,17 +23,18 @@ cut-below (fin false m e) p h =
     le-of-values (f32Of (toUnsigned 64 (fin false m e))) (fin false m e) (toUnsigned 64 (fin false m e)) 1 (m * up e) (down e) (lit< tt) (down-pos e) (whole-value (toUnsigned 64 (fin false m e)) h) (refl, refl)
     (unfold toUnsigned in le-trans (mul-le-mul-right (down e) (min-le-left (m * up e / down e) (2 ^ 64 - 1))) (le-trans (div-mul-le-self (m * up e) (down e)) (le-of-eq (sym (mul-one (m * up e))))))
 
-back : (n : ℕ) → n ≤ 2 ^ 24 → toUnsigned 64 (f32Of n) ≡ n
+-- a whole number as a float and back
+pub whole-back : (n : ℕ) → n ≤ 2 ^ 24 → toUnsigned 64 (f32Of n) ≡ n
 unfolding inFloat
-back n h = unsigned-back binary32 64 n (le→leb n (2 ^ 24) h) (omega arith) .1
+whole-back n h = unsigned-back binary32 64 n (le→leb n (2 ^ 24) h) (omega arith) .1
 
 -- x from a to b, whole numbers: so is what it rounds to
 module _ (x : Float) (a b : ℕ) (B : b ≤ 2 ^ 24) (A : a ≤ 2 ^ 24) (i : In (f32Of a) (f32Of b) x) where
   cut-ge : a ≤ toUnsigned 64 x
-  cut-ge = subst (λ (n : ℕ). n ≤ toUnsigned 64 x) (back a A) (cut-least 64 i)
+  cut-ge = subst (λ (n : ℕ). n ≤ toUnsigned 64 x) (whole-back a A) (cut-least 64 i)
 
   pub cut-le : toUnsigned 64 x ≤ b
-  cut-le = subst (λ (n : ℕ). toUnsigned 64 x ≤ n) (back b B) (cut-most 64 i)
+  cut-le = subst (λ (n : ℕ). toUnsigned 64 x ≤ n) (whole-back b B) (cut-most 64 i)
 
   -- at the top there is nothing to round up
   top : T (not (le (ofBits binary32 0x3f00_0000) (sub binary32 (f32Of b) (f32Of b)))) → T (nonneg (sub binary32 (f32Of b) (f32Of b))) → toUnsigned 64 x ≡ b → T (le (ofBits binary32 0x3f00_0000) (sub binary32 x (f32Of (toUnsigned 64 x)))) → ⊥

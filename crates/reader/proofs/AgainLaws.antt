@@ -10,7 +10,7 @@ use lib.Dec.{eqb, leb, ltb}
 use lib.Ieee.Scale.{finite}
 use lib.ListN.{length, getD, take}
 use Rattle.laws.specs.Lists.{listTo, pad, joined}
-use Rattle.laws.proofs.Bools.{holds}
+use Rattle.laws.proofs.Bools.{both, holds}
 use Rattle.composer.specs.Compose.{styleBy}
 use Rattle.composer.specs.Form.Ends.{endCodeOf, endBarsOf, outroCodeOf, outroLengthOf}
 use Rattle.composer.specs.Form.Plays.{bitsOf, silent}
@@ -37,7 +37,7 @@ use Rattle.reader.proofs.RoomyLaws.{first-start, next-start}
 use Rattle.reader.proofs.OctetLaws.{be16-span, be64-span, f32-span}
 use Rattle.reader.proofs.SongLaws.{theTen, as-fields}
 use Rattle.reader.proofs.SpanLaws.{Span, span-none, span-then, span-byte, span-cons, span-to, span-whole, span-list, span-bytes, span-entries}
-use Rattle.reader.proofs.TestLaws.{both, all-to-at}
+use Rattle.reader.proofs.TestLaws.{all-to-at}
 use Rattle.reader.proofs.TestedLaws.{note-told, hit-told, notes-told, hits-told, score-told, within-told}
 use Rattle.reader.proofs.ValueLaws.{role-in}
 

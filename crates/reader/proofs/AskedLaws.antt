@@ -4,6 +4,7 @@ use mathlib.Core.Bool.{Bool, true, false, _&&_, cond}
 use mathlib.Core.List.{List}
 use Prim.Native.Nat.{ℕ}
 use native.Mathlib.Omega.{arith}
+use Rattle.laws.proofs.Bools.{both}
 use Rattle.composer.specs.declared.refusal.Outcome.{Outcome}
 use Rattle.composer.specs.declared.refusal.Refusal.{Refusal}
 use Rattle.pages.specs.Answer.{Writes, Declines}
@@ -17,7 +18,6 @@ use Rattle.reader.specs.Within.{within}
 use Rattle.reader.specs.declared.song.Read.{Read}
 use Rattle.reader.specs.declared.song.Song.{Song}
 use Rattle.reader.proofs.ArrayLaws.{cleared-read}
-use Rattle.reader.proofs.TestLaws.{both}
 
 -- ---- the writer
 pub tests-valid : (v : Song) {w z t : Bool} → w ≡ within v → z ≡ cleared v → (w && z) ≡ t → valid v ≡ t

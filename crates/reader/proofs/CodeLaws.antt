@@ -5,6 +5,7 @@ use Prim.Native.Nat.{ℕ, _≤_, _<_}
 use native.Mathlib.Omega.{arith}
 use borrow.Author.Tests.{eqb-true, leb-true, ltb-true, ltb-false, ne-eqb}
 use lib.Dec.{eqb, leb, ltb}
+use Rattle.laws.proofs.Bools.{both}
 use Rattle.composer.specs.Compose.{styleBy}
 use Rattle.composer.specs.Form.Ends.{countOf, endCodeOf, endBarsOf, outroCodeOf, outroLengthOf}
 use Rattle.composer.specs.Form.Plays.{bitsOf}
@@ -20,7 +21,7 @@ use Rattle.pages.specs.declared.edition.Edition.{Edition}
 use Rattle.reader.specs.Codes.{voiceCoded, leadRoleCoded, roleCoded, kindCoded, barsCoded, edgeCoded, endCoded, outroCoded, playsCoded, endKnown, outroKnown}
 use Rattle.reader.specs.Tests.{allTo}
 use Rattle.reader.specs.Within.{roleWithin}
-use Rattle.reader.proofs.TestLaws.{both, all-to-at}
+use Rattle.reader.proofs.TestLaws.{all-to-at}
 
 -- ---- by a table of all that are known
 same-to : (f : ℕ → ℕ) (n : ℕ) → allTo (λ c. eqb (f c) c) n ≡ true → (c : ℕ) → c < n → f c ≡ c

@@ -8,11 +8,12 @@ use native.Mathlib.Omega.{arith}
 use borrow.Author.Tests.{eqb-true, leb-true}
 use lib.Dec.{eqb, leb}
 use lib.ListN.{length, getD}
+use Rattle.laws.proofs.Bools.{both}
 use Rattle.pages.specs.Bytes.{byteAt}
 use Rattle.pages.specs.declared.edition.Edition.{Edition}
 use Rattle.reader.specs.Layout.{editionIn, startAt, sizeAt, widths, least, most, lengthFits, fieldFits, led, formed}
 use Rattle.reader.specs.Tests.{allTo}
-use Rattle.reader.proofs.TestLaws.{both, all-to-at}
+use Rattle.reader.proofs.TestLaws.{all-to-at}
 
 -- ---- n bytes are whole entries of w bytes, lo to hi of them
 pub record Spans (w lo hi n : ℕ) : Type 0 where

@@ -11,13 +11,10 @@ use lib.Dec.{ltb}
 use lib.ListN.{length, getD, take}
 use lib.Seq.{ext-getD, getD-take, length-take-le}
 use Rattle.laws.specs.Lists.{pad}
+use Rattle.laws.proofs.Bools.{both}
 use Rattle.laws.proofs.Lists.{length-pad, pad-at, getD-any}
 use Rattle.laws.proofs.Written.{rest-is}
 use Rattle.reader.specs.Tests.{allTo}
-
-pub both : (a b : Bool) → (a && b) ≡ true → (a ≡ true) × (b ≡ true)
-both true b e = (refl, e)
-both false b e = (e, absurd (let z : _≡_ {A = ℕ} 0 1 = cc in omega arith))
 
 -- where the first of two is known
 pub and-then : {a t : Bool} (b : Bool) → a ≡ true → t ≡ b → t ≡ (a && b)

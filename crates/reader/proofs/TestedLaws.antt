@@ -10,6 +10,7 @@ use lib.Ieee.{Float, binary32, toBits, ofBits}
 use lib.Ieee.Bits.{ofBits-toBits}
 use lib.Ieee.Scale.{finite}
 use lib.ListN.{length, getD}
+use Rattle.laws.proofs.Bools.{both}
 use Rattle.composer.specs.Chord.{pastChord, noChord}
 use Rattle.composer.specs.Form.{partsOf}
 use Rattle.composer.specs.Form.Plays.{bitsOf, silent}
@@ -35,7 +36,7 @@ use Rattle.reader.specs.Within.{roleWithin, noteWithin, hitWithin, notes
 use Rattle.reader.specs.declared.song.Song.{Song}
 use Rattle.reader.proofs.BarsLaws.{song-bars}
 use Rattle.reader.proofs.SongLaws.{plays-back}
-use Rattle.reader.proofs.TestLaws.{both, all-to-at}
+use Rattle.reader.proofs.TestLaws.{all-to-at}
 use Rattle.reader.proofs.ValueLaws.{value-valid}
 
 yes : (t : Bool) → t ≡ true → T t

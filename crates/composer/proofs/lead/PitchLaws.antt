@@ -10,7 +10,7 @@ use borrow.Author.Tests.{ltb-true}
 use lib.Dec.{T, ltb, eqb}
 use lib.ListN.{getD, length, set, length-set}
 use lib.Seq.{getD-set-same, getD-set-other}
-use Rattle.laws.proofs.Bools.{cond-by}
+use Rattle.laws.proofs.Bools.{both, cond-by}
 use Rattle.streams.specs.Draw.{pickOf, chanceOf}
 use Rattle.streams.specs.declared.stream.NoiseStream.{NoiseStream}
 use Rattle.streams.specs.declared.draw.PickDraw.{PickDraw}
@@ -37,20 +37,11 @@ pub picked-below : (s : NoiseStream) (n : ℕ) {r : PickDraw} → r ≡ pickOf s
 picked-below s n e h = rw e (pick-lt s n h)
 
 -- ---- the role: where it is a quote, there is a note to quote
-and-left : (a b : Bool) → (a && b) ≡ true → a ≡ true
-and-left true b h = refl
-and-left false b h = h
-
-and-right : (a b : Bool) → (a && b) ≡ true → b ≡ true
-and-right true b h = h
-and-right false true h = refl
-and-right false false h = h
-
 pub role-quotes : (l : Line) (p : Place) → Quotable (roleOf l p .role) (p .i) (l .heads)
 unfolding roleOf chanceRoleOf
 role-quotes l p =
     by-cases (quotesOf p (l .heads)) (p .last) (peaksOf p) (leaptOf (l .from) (l .prev)) (p .strong)
-    (λ h. ltb-true (p .i) (l .heads) (and-right (eqb (p .bar) 4) (ltb (p .i) (l .heads)) (and-left (eqb (p .bar) 4 && ltb (p .i) (l .heads)) (not (p .last)) h)))
+    (λ h. ltb-true (p .i) (l .heads) (both (eqb (p .bar) 4) (ltb (p .i) (l .heads)) (both (eqb (p .bar) 4 && ltb (p .i) (l .heads)) (not (p .last)) h .0) .1))
   where
     by-chance : (h : Bool) (t : NoiseStream) → Quotable (cond h (chosenOf ChordTone t) (chosenOf Passing t) .role) (p .i) (l .heads)
     by-chance true t = tt
@@ -100,7 +91,7 @@ module _ (pool : List Bool) (g : Ground) (sound : Sound pool g) where
 
 -- ---- the line after one note more
 pub opens-room : (bar heads : ℕ) → opensLineOf bar heads ≡ true → heads < 2
-opens-room bar heads h = ltb-true heads 2 (and-right (eqb bar 0) (ltb heads 2) h)
+opens-room bar heads h = ltb-true heads 2 (both (eqb bar 0) (ltb heads 2) h .1)
 
 module _ (pool : List Bool) (lo hi : ℕ) (l : Line) (opening note : ℕ) (f : Fit pool lo hi l opening) (fits : T (fitsOf pool lo hi note)) where
   head-on : (o : Bool) → (o ≡ true → l .heads < 2) → (i : ℕ) → i < cond o (l .heads + 1) (l .heads) → T (fitsOf pool lo hi (getD (cond o (set (l .head) (l .heads) note) (l .head)) i 0))

@@ -2,9 +2,9 @@
 use mathlib.Core.Bool.{true, false, _&&_}
 use mathlib.Core.Path.{_≡_, refl, sym, _∙_}
 use borrow.Author.Tests.{not-true, not-false}
+use Rattle.laws.proofs.Bools.{both}
 use Rattle.reader.specs.Value.{valid, Typed}
 use Rattle.reader.proofs.AskedLaws.{asked-valid, asked-other, tests-valid}
-use Rattle.reader.proofs.TestLaws.{both}
 use Rattle.reader.proofs.TypesLaws.{song-typed}
 use borrow.Author.Needs.{needs}
 use Rattle.reader.proofs.write.write.Statement.{statement}
