@@ -1,6 +1,6 @@
 // A stream of draws: its seed, and how many draws it has made.
 ghost use mathlib.Core.Path.{_≡_};
-ghost use Rattle.streams.specs.Stream.{newOf, nextU64Of, unitOf};
+ghost use Rattle.streams.specs.Stream.{newOf, after, nextU64Of, unitOf};
 use crate::mix::splitmix_draw;
 
 pub struct NoiseStream {
@@ -27,6 +27,16 @@ impl NoiseStream {
         NoiseStream {
             seed: seed,
             counter: 0,
+        }
+    }
+
+    // The stream after n draws more, which are not made.
+    pub fn skipped(self, n: u64) -> NoiseStream
+        ensures { λ r. ⌜ r ≡ after self n ⌝ }
+    {
+        NoiseStream {
+            seed: self.seed,
+            counter: std::num::wrapping_add_u64(self.counter, n),
         }
     }
 
