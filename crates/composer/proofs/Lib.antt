@@ -9,4 +9,5 @@ pub mod PlainLaws
 pub mod RangeLaws
 pub mod SpreadLaws
 pub mod TempoLaws
+pub mod TraitsLaws
 pub mod VoiceLaws

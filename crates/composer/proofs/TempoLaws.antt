@@ -1,6 +1,6 @@
 -- Every tempo is within its style's window, and takes one draw. Assumes nothing.
 use mathlib.Core.Path.{_≡_, ap, _∙_}
-use Prim.Native.Nat.{ℕ, _+_, _/_, _%_, _^_, _≤_}
+use Prim.Native.Nat.{ℕ, _+_, _/_, _%_, _^_, _≤_, _<_}
 use native.Mathlib.Omega.{arith}
 use lib.Dec.{lit≤}
 use lib.Ieee.{Float, binary32, add, sub, mul, ofInt, ofBits, toUnsigned, le}
@@ -47,9 +47,9 @@ module _ (s : NoiseStream) where
   tempo-within Hiphop = round-within (drawOf (bpmOf Hiphop) s .value) 70 82 (lit≤ tt) (lit≤ tt) (drawn-in Hiphop) (unfold ofBits ofInt sub le in tt) (unfold ofInt sub in tt)
   tempo-within Sleep = round-within (drawOf (bpmOf Sleep) s .value) 73 77 (lit≤ tt) (lit≤ tt) (drawn-in Sleep) (unfold ofBits ofInt sub le in tt) (unfold ofInt sub in tt)
 
-  pub beats-small : (style : Style) → beatsOf s style ≤ 2 ^ 24
-  beats-small Hiphop = omega (arith, tempo-within Hiphop .1)
-  beats-small Sleep = omega (arith, tempo-within Sleep .1)
+  pub beats-byte : (style : Style) → beatsOf s style < 256
+  beats-byte Hiphop = omega (arith, tempo-within Hiphop .1)
+  beats-byte Sleep = omega (arith, tempo-within Sleep .1)
 
 -- one draw, always
 pub tempo-counter : (seed : ℕ) (style : Style) → tempoOf (streamOf Stage.Tempo seed) style .stream .counter ≡ 1

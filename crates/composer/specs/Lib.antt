@@ -20,4 +20,5 @@ pub mod Spread
 pub mod Style
 pub mod Tempo
 pub mod Timing
+pub mod Traits
 pub mod Voice

@@ -14,6 +14,9 @@ numberOf Refusal.HallCount = 6
 numberOf Refusal.SheetFields = 7
 numberOf Refusal.SheetValues = 8
 numberOf Refusal.OtherSong = 9
+numberOf Refusal.LessonSpan = 10
+numberOf Refusal.LessonWish = 11
+numberOf Refusal.NoSeed = 12
 
 pub data Answer (A : Type 0) : Type 0 where
   Gives : A → Answer A

@@ -7,10 +7,14 @@ use Rattle.composer.specs.Style.{bpmOf}
 use Rattle.composer.specs.declared.spread.Drawn.{Drawn}
 use Rattle.composer.specs.declared.style.Style.{Style}
 use Rattle.composer.specs.declared.style.Style.the-variants.{Hiphop, Sleep}
+use Rattle.composer.specs.declared.tempo.TempoDraw.{TempoDraw}
 
 -- in whole beats per minute
 unfoldable pub beatsOf : NoiseStream → Style → ℕ
 beatsOf s style = roundOf (drawOf (bpmOf style) s .value)
+
+unfoldable pub tempoDrawOf : NoiseStream → Style → TempoDraw
+tempoDrawOf s style = record { beats = beatsOf s style; stream = drawOf (bpmOf style) s .stream }
 
 unfoldable pub tempoOf : NoiseStream → Style → Drawn
 tempoOf s style = record { value = f32Of (beatsOf s style); stream = drawOf (bpmOf style) s .stream }

@@ -17,4 +17,5 @@ pub mod spread;
 pub mod style;
 pub mod tempo;
 pub mod timing;
+pub mod traits;
 pub mod voice;

@@ -12,6 +12,9 @@ pub enum Refusal {
     SheetFields,
     SheetValues,
     OtherSong,
+    LessonSpan,
+    LessonWish,
+    NoSeed,
 }
 
 impl Refusal {
@@ -29,6 +32,9 @@ impl Refusal {
             Refusal::SheetFields => 7,
             Refusal::SheetValues => 8,
             Refusal::OtherSong => 9,
+            Refusal::LessonSpan => 10,
+            Refusal::LessonWish => 11,
+            Refusal::NoSeed => 12,
         }
     }
 }
