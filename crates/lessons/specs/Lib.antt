@@ -1,0 +1,4 @@
+pub mod Inner
+pub mod Lesson
+pub mod Promise
+pub mod Wishes
