@@ -14,6 +14,9 @@ static const char *refusal(int64_t answer) {
     case -7: return "a field is missing, cut off, misplaced or trailing, or has a length or edition that no sheet has";
     case -8: return "a value is out of range, or the field 0x0A has another length than the song";
     case -9: return "the sheet is not, byte for byte, the one that its style and seed give in its edition";
+    case -10: return "the count is outside 1 to 65,536, or the span goes past the largest seed";
+    case -11: return "a wish is outside its codes";
+    case -12: return "none of the span has all that is wished for";
     default: return "an answer that the header does not have";
     }
 }
@@ -35,7 +38,7 @@ static uint64_t number(int argc, char **argv, int i, uint64_t most, uint64_t oth
     return n;
 }
 
-/* The count of a call that wrote; else says why not, and ends. */
+/* The answer of a call that was not refused; else says why it was, and ends. */
 static int64_t written(const char *what, int64_t answer) {
     if (answer < 0) {
         fflush(stdout); /* what was printed before comes first */

@@ -5,7 +5,7 @@ use std::collections::HashSet;
 
 pub const EDITIONS: [Edition; 2] = [Edition::One, Edition::Two];
 
-const STYLES: [Style; 2] = [Style::Hiphop, Style::Sleep];
+pub const STYLES: [Style; 2] = [Style::Hiphop, Style::Sleep];
 const SEEDS: [u64; 4] = [0, 1, 1234567, u64::MAX];
 
 /// SplitMix64's first numbers for the seed 1234567, as they are published.
@@ -215,6 +215,9 @@ fn refusals_have_the_numbers_of_the_documents() {
         (7, Refusal::SheetFields),
         (8, Refusal::SheetValues),
         (9, Refusal::OtherSong),
+        (10, Refusal::LessonSpan),
+        (11, Refusal::LessonWish),
+        (12, Refusal::NoSeed),
     ];
     for (number, refusal) in refusals {
         assert_eq!(refusal as i64, number);

@@ -1,10 +1,11 @@
-//! Sheets and bar pages of songs, sheets read back, sheets turned into the other edition, and lists of a hall's papers:
-//! a safe wrapper of include/seqochanu.h. What stands on a sheet is a `Sheet` (sheet.rs), and how it stands there goes
-//! by its `Edition` (edition.rs).
+//! Sheets and bar pages of songs, sheets read back, sheets turned into the other edition, lists of a hall's papers, and
+//! seeds for lessons: a safe wrapper of include/seqochanu.h. What stands on a sheet is a `Sheet` (sheet.rs), and how it
+//! stands there goes by its `Edition` (edition.rs). What a lesson's song is to have are its `Wishes` (lesson.rs).
 //!
 //! The C functions ask that the buffer is not NULL, that its bytes are set and may be read and written, and that
-//! nothing else uses them during the call. A `&mut [u8]` is all of that, an empty one too, and a `&[u8]` beside it is
-//! what they ask of a sheet that is given, so nothing is left to check.
+//! nothing else uses them during the call. A `&mut [u8]` is all of that, an empty one too, a `&[u8]` beside it is what
+//! they ask of a sheet that is given, and a `&mut u64` is what they ask of a seed that is to be set, so nothing is left
+//! to check.
 
 use std::error::Error;
 use std::fmt;
@@ -12,10 +13,14 @@ use std::fmt;
 // where this file is a module of a program, the paths find the others beside it, and it may use a part of this
 #[path = "edition.rs"]
 mod edition;
+#[path = "lesson.rs"]
+mod lesson;
 #[path = "sheet.rs"]
 mod sheet;
 #[allow(unused_imports)]
 pub use edition::Edition;
+#[allow(unused_imports)]
+pub use lesson::{Key, Wishes, lesson};
 #[allow(unused_imports)]
 pub use sheet::{Drum, Ending, EndingKind, Form, Hit, Note, Plays, Role, Sheet, Voice};
 
@@ -44,14 +49,24 @@ pub mod raw {
             buf: *mut u8,
             len: usize,
         ) -> i64;
+        pub fn seqochanu_lesson(
+            style: u8,
+            start: u64,
+            count: u64,
+            key: u8,
+            tempo: u8,
+            voice: u8,
+            seed: *mut u64,
+        ) -> i64;
     }
 }
 
-/// No sheet of either edition, page or list is longer, in bytes, and no list has more seeds.
+/// No sheet of either edition, page or list is longer, in bytes, no list has more seeds, and no span that is searched.
 pub const SHEET_MOST: usize = Edition::Two.sheet_most();
 pub const PAGE_MOST: usize = 703;
 pub const LIST_MOST: usize = 32768;
 pub const COUNT_MOST: u64 = 4096;
+pub const SPAN_MOST: u64 = 65536;
 
 /// A song's style; its number is the one on the sheet.
 #[derive(Clone, Copy, Debug, PartialEq, Eq)]
@@ -73,7 +88,7 @@ impl TryFrom<u8> for Style {
     }
 }
 
-/// Why nothing was written, by the numbers of documents 01 and 02.
+/// Why nothing was written, or no seed was found, by the numbers of documents 01 and 02.
 #[derive(Clone, Copy, Debug, PartialEq, Eq)]
 #[repr(u8)]
 pub enum Refusal {
@@ -86,6 +101,9 @@ pub enum Refusal {
     SheetFields = 7,
     SheetValues = 8,
     OtherSong = 9,
+    LessonSpan = 10,
+    LessonWish = 11,
+    NoSeed = 12,
 }
 
 impl fmt::Display for Refusal {
@@ -106,24 +124,37 @@ impl fmt::Display for Refusal {
             Self::OtherSong => {
                 "the sheet is not, byte for byte, the one that its style and seed give in its edition"
             }
+            Self::LessonSpan => {
+                "the count is outside 1 to 65,536, or the span goes past the largest seed"
+            }
+            Self::LessonWish => "a wish is outside its codes",
+            Self::NoSeed => "no seed of the span has all that is wished for",
         })
     }
 }
 
 impl Error for Refusal {}
 
-/// The bytes written, or the refusal, of a C function's answer. No C function refuses with 4 or 5.
-fn written(answer: i64) -> Result<usize, Refusal> {
+/// The refusal of a C function's answer that is one. No C function refuses with 4 or 5.
+fn refusal(answer: i64) -> Refusal {
     match answer {
-        -1 => Err(Refusal::UnknownStyle),
-        -2 => Err(Refusal::ShortBuffer),
-        -3 => Err(Refusal::NoSuchBar),
-        -6 => Err(Refusal::HallCount),
-        -7 => Err(Refusal::SheetFields),
-        -8 => Err(Refusal::SheetValues),
-        -9 => Err(Refusal::OtherSong),
-        count => Ok(usize::try_from(count).expect("no C function refuses with another number")),
+        -1 => Refusal::UnknownStyle,
+        -2 => Refusal::ShortBuffer,
+        -3 => Refusal::NoSuchBar,
+        -6 => Refusal::HallCount,
+        -7 => Refusal::SheetFields,
+        -8 => Refusal::SheetValues,
+        -9 => Refusal::OtherSong,
+        -10 => Refusal::LessonSpan,
+        -11 => Refusal::LessonWish,
+        -12 => Refusal::NoSeed,
+        _ => panic!("no C function refuses with another number: {answer}"),
     }
+}
+
+/// The bytes written, or the refusal, of a C function's answer.
+fn written(answer: i64) -> Result<usize, Refusal> {
+    usize::try_from(answer).map_err(|_| refusal(answer))
 }
 
 /// Writes the sheet of a seed's song, in edition 2, from `buf[0]` on; its length. A refusal leaves `buf` as it was.

@@ -1,4 +1,4 @@
-// The sheet, the bar page, the hall list, sheets read back and sheets from edition to edition, for C
+// The sheet, the bar page, the hall list, sheets read back, sheets from edition to edition and seeds for lessons, for C
 // (include/seqochanu.h).
 ghost use mathlib.Core.Path.{_≡_};
 ghost use Prim.Native.Nat.{_^_, _<_};
@@ -11,14 +11,26 @@ ghost use Rattle.pages.specs.Sheet.{sheetAsked};
 ghost use Rattle.pages.specs.declared.edition.Edition.{Edition};
 ghost use Rattle.reader.specs.Promise.{Octets};
 ghost use Rattle.reader.specs.Read.{rereadAsked};
-ghost use Rattle.seqochanu.specs.Code.{codeOf};
+ghost use Rattle.seqochanu.specs.Code.{refusalCode, codeOf};
+ghost use Rattle.seqochanu.specs.Lesson.{wishesOf, LessonCalled};
+use composer::refusal::Refusal;
 use editions::convert::convert;
 use halls::list::hall_list;
+use lessons::answer::Lesson;
+use lessons::lesson::lesson;
+use lessons::wishes::Wishes;
 use pages::answer::Written;
 use pages::edition::Edition;
 use pages::page::bar_page;
 use pages::sheet::sheet;
 use reader::write::reread;
+
+// Minus the refusal's number.
+fn refusal_code(r: Refusal) -> i64
+    ensures { λ x. ⌜ x ≡ refusalCode r ⌝ }
+{
+    -(r.number() as i64)
+}
 
 // The length, or minus the refusal's number.
 fn code(w: Written) -> i64
@@ -27,7 +39,7 @@ fn code(w: Written) -> i64
 {
     match w {
         Written::Bytes(n) => n as i64,
-        Written::Refused(r) => -(r.number() as i64),
+        Written::Refused(r) => refusal_code(r),
     }
 }
 
@@ -101,4 +113,35 @@ pub extern "C" fn seqochanu_to_edition_2(sheet: &[u8], buf: &mut [u8]) -> i64
 {
     let w = convert(sheet, Edition::Two, buf);
     code(w)
+}
+
+// Sets `seed` to some seed among the `count` seeds from `start` on whose song in style 0 or 1 has the key (0 to 11, 12
+// for any), the tempo (1 to 255, 0 for any) and the lead voice (0 to 3, 255 for any), and answers 0. Any other style is
+// -1, then a count outside 1 to 65,536 or a span past the largest seed -10, then a wish outside these codes -11, and -12
+// just where no seed of the span has all three; with these, `seed` stays.
+#[no_mangle]
+pub extern "C" fn seqochanu_lesson(
+    style: u8,
+    start: u64,
+    count: u64,
+    key: u8,
+    tempo: u8,
+    voice: u8,
+    seed: &mut u64,
+) -> i64
+    ensures { λ r. ⌜ LessonCalled style start count (wishesOf key tempo voice) (now (seed .entry)) (now (seed .exit)) r ⌝ }
+{
+    let wishes = Wishes {
+        key: key,
+        tempo: tempo,
+        voice: voice,
+    };
+    let answer = lesson(style, start, count, wishes);
+    match answer {
+        Lesson::Seed(found) => {
+            *seed = found;
+            0
+        }
+        Lesson::Refused(r) => refusal_code(r),
+    }
 }

@@ -1,8 +1,7 @@
--- Each arm is its case of the definition: a length below 2^63 fits, and so does minus a byte. Assumes nothing.
-use native.Mathlib.Omega.{arith}
+-- Each arm is its case of the definition: a length below 2^63 fits. Assumes nothing.
+use mathlib.Core.Path.{_∙_}
 use mir.Syntax.{w64}
-use mir.ValLaws.{toZ-pos}
-use Rattle.laws.proofs.Signed.{minus-fits, minus-reads}
+use mir.ValLaws.{toZ-pos, toZ-ofZ}
 use borrow.Author.Needs.{needs}
 use Rattle.seqochanu.proofs.code.Statement.{statement}
 use Rattle.seqochanu.proofs.code.Tie as tie
@@ -16,14 +15,8 @@ cast-result c = record { sfits = rw (c .before .w .given .1) at (c .before .befo
 enum-known-w-2 : tie.Need-enum-known-w-2
 enum-known-w-2 c = search needs
 
-number-requires : tie.Need-number-requires
-number-requires c κs = search needs
-
-cast-result-2 : tie.Need-cast-result-2
-cast-result-2 c = search needs
-
-sub-result : tie.Need-sub-result
-sub-result c = minus-fits (c .number .result) (omega (arith, c .number .ok))
+refusal-code-requires : tie.Need-refusal-code-requires
+refusal-code-requires c κs = search needs
 
 returns : tie.Need-returns
 returns c =
@@ -31,7 +24,9 @@ returns c =
     rw e (toZ-pos w64 (c .before .w .given .0 .0) (rw e at (c .before .before .before .pre)))
 
 returns-2 : tie.Need-returns-2
-returns-2 c = rw (c .before .before .w2 .given .1, ← c .number .ensures) (minus-reads (c .number .result) (omega (arith, c .number .ok)))
+returns-2 c =
+    let r = c .refusal-code in
+    rw (c .before .before .w2 .given .1) (toZ-ofZ w64 (r .result) (record { sfits = r .ok }) ∙ r .ensures)
 
 pub code-spec : {M : Type 1} → statement M
 code-spec =
@@ -40,8 +35,6 @@ code-spec =
     enum-known-w
     cast-result
     enum-known-w-2
-    number-requires
-    cast-result-2
-    sub-result
+    refusal-code-requires
     returns
     returns-2)
