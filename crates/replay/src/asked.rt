@@ -4,6 +4,9 @@ ghost use lib.ListN.{length};
 use composer::refusal::Outcome;
 use editions::convert::convert;
 use halls::list::hall_list;
+use lessons::answer::Lesson;
+use lessons::lesson::lesson;
+use lessons::wishes::Wishes;
 use pages::answer::Written;
 use pages::edition::Edition;
 use pages::edition::SHEET_MOST;
@@ -238,6 +241,37 @@ fn converted_fold(wanted: Edition, seed: u64, how: u64) -> u64 {
     written_fold(written, &buf)
 }
 
+// The lesson that `how` tells of (README.md).
+fn lesson_of(start: u64, how: u64) -> Lesson {
+    let wishes = Wishes {
+        key: (how / 65536 % 256) as u8,
+        tempo: (how / 256 % 256) as u8,
+        voice: (how % 256) as u8,
+    };
+    lesson(
+        (how / 16777216 % 256) as u8,
+        start,
+        how / 4294967296,
+        wishes,
+    )
+}
+
+// The number of its refusal, 0 for none.
+fn lesson_refusal(start: u64, how: u64) -> u64 {
+    match lesson_of(start, how) {
+        Lesson::Seed(_) => 0,
+        Lesson::Refused(r) => r.number() as u64,
+    }
+}
+
+// The seed that it gives. Where it gives none, the largest number: a line K beside it tells that from a seed.
+fn lesson_seed(start: u64, how: u64) -> u64 {
+    match lesson_of(start, how) {
+        Lesson::Seed(seed) => seed,
+        Lesson::Refused(_) => u64::MAX,
+    }
+}
+
 // Our answer; the largest number for a letter that asks nothing.
 pub fn answer(what: u8, a: u64, b: u64) -> u64 {
     match what {
@@ -259,6 +293,8 @@ pub fn answer(what: u8, a: u64, b: u64) -> u64 {
         b'R' => reread_fold(a, b),
         b'O' => converted_fold(Edition::One, a, b),
         b'T' => converted_fold(Edition::Two, a, b),
+        b'K' => lesson_refusal(a, b),
+        b'k' => lesson_seed(a, b),
         _ => u64::MAX,
     }
 }

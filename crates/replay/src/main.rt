@@ -83,5 +83,6 @@ fn main() {
     replay(b"halls");
     replay(b"sheets");
     replay(b"editions");
+    replay(b"lessons");
     replay(b"wrong");
 }

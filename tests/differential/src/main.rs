@@ -28,6 +28,7 @@ mod edition;
 mod forms;
 mod halls;
 mod hits;
+mod lessons;
 mod made;
 mod ours;
 mod pages;
@@ -60,12 +61,14 @@ fn compare(from: u64, to: u64) -> Tally {
         halls::compare_seed(&mut tally, seed);
         reread::compare_seed(&mut tally, seed);
         convert::compare_seed(&mut tally, seed);
+        lessons::compare_seed(&mut tally, seed);
         if i % 15 == 0 {
             made::compare_seed(&mut tally, seed);
             hits::compare_seed(&mut tally, seed);
             halls::compare_longest(&mut tally, seed);
             reread::compare_made(&mut tally, seed);
             convert::compare_made(&mut tally, seed);
+            lessons::compare_made(&mut tally, seed);
         }
     }
     tally
@@ -106,6 +109,7 @@ fn main() {
     halls::compare_edges(&mut edges);
     reread::compare_edges(&mut edges);
     convert::compare_edges(&mut edges);
+    lessons::compare_edges(&mut edges);
     program::paper::compare_edges(&mut edges, paper);
     program::hall::compare_edges(&mut edges, hall);
     let all = edges.join(compare_all(start, count));

@@ -3,8 +3,9 @@
 
 use crate::compose::reach::form::Parts;
 use crate::edition::Edition;
+use crate::lessons::{Lesson, Wish};
 use crate::seqochanu::raw::{
-    seqochanu_bar_page, seqochanu_hall_list, seqochanu_reread, seqochanu_sheet,
+    seqochanu_bar_page, seqochanu_hall_list, seqochanu_lesson, seqochanu_reread, seqochanu_sheet,
     seqochanu_to_edition_1, seqochanu_to_edition_2,
 };
 
@@ -157,6 +158,17 @@ pub fn to_edition(sheet: &[u8], wanted: Edition, buf: &mut [u8]) -> i64 {
     };
     let (sheet, sheet_len) = (sheet.as_ptr(), sheet.len());
     unsafe { call(sheet, sheet_len, buf.as_mut_ptr(), buf.len()) }
+}
+
+pub fn lesson(asked: &Lesson, seed: &mut u64) -> i64 {
+    let Lesson {
+        style,
+        start,
+        count,
+        wish,
+    } = *asked;
+    let Wish { key, tempo, voice } = wish;
+    unsafe { seqochanu_lesson(style, start, count, key, tempo, voice, seed) }
 }
 
 /// Minus the number of the refusal, or the sheet's own length: the call says of what it wrote only that it did.

@@ -10,6 +10,7 @@ use crate::draws::stream_with;
 use crate::dsp::reach::{next_u64, seed_of, stream};
 use crate::edition::{EDITIONS, Edition, PAGE_MOST, SHEET_MOST};
 use crate::halls::{HALLS, LIST_MOST, list};
+use crate::lessons::{self, Lesson, Wish};
 use crate::reread::judge::judge;
 use crate::scores::unbeaten;
 use crate::words::{kick_words, words_of};
@@ -239,6 +240,26 @@ fn edition_lines(lines: &mut Vec<Line>, seed: u64, spoils: impl Fn(&[u8]) -> Vec
     }
 }
 
+/// A lesson in one word, but for its start.
+fn packed(lesson: &Lesson) -> u64 {
+    let Wish { key, tempo, voice } = lesson.wish;
+    let count = u32::try_from(lesson.count).expect("a count of 32 bits");
+    u64::from(count) << 32 | u64::from(u32::from_be_bytes([lesson.style, key, tempo, voice]))
+}
+
+/// K: the number of document 02's refusal of the lesson that starts at a and goes by b, 0 for none. k: the seed that
+/// is given, where just one fits, so that document 02 settles which.
+fn lesson_lines(lines: &mut Vec<Line>) {
+    for (lesson, judged) in lessons::judged() {
+        let (a, b) = (lesson.start, packed(&lesson));
+        let number = judged.as_ref().err().map_or(0, |&number| number as u64);
+        lines.push(('K', a, b, number));
+        if let Ok([seed]) = judged.as_deref() {
+            lines.push(('k', a, b, *seed));
+        }
+    }
+}
+
 fn write_lines(folder: &str, name: &str, lines: &[Line]) {
     let text: String = (lines.iter())
         .map(|(what, a, b, answer)| format!("{what} {a:016x} {b:016x} {answer:016x}\n"))
@@ -282,4 +303,7 @@ pub fn write(folder: &str) {
         edition_lines(&mut editions, seed, |_| vec![(None, WHOLE)]);
     }
     write_lines(folder, "editions", &editions);
+    let mut lessons = Vec::new();
+    lesson_lines(&mut lessons);
+    write_lines(folder, "lessons", &lessons);
 }
