@@ -30,7 +30,7 @@ mod raw {
 }
 
 /// A song to be made, how many bars it has, which a player has read on its sheet, and that sheet, to be read back, in
-/// edition 2 and in edition 1. To a case of halls its seed is a hall's number.
+/// edition 2 and in edition 1. To a case of halls its seed is a hall's number, and to a search the first of the span.
 #[derive(Clone, Copy)]
 pub struct Asked {
     pub style: u8,
@@ -96,7 +96,7 @@ impl Side {
     }
 }
 
-const BOTH: &[u8] = &[0, 1];
+pub const BOTH: &[u8] = &[0, 1];
 
 /// The first side is ours, and the others are set beside it. `batch` songs are made in a round. Where the style says
 /// nothing, `styles` has just one.
@@ -117,7 +117,7 @@ impl Case {
     }
 }
 
-fn side(name: &'static str, run: impl FnMut(Asked) -> u64 + 'static) -> Side {
+pub fn side(name: &'static str, run: impl FnMut(Asked) -> u64 + 'static) -> Side {
     let run = Box::new(run);
     Side {
         name,
@@ -344,11 +344,6 @@ pub fn of_readings() -> [Case; 7] {
 
 pub fn of_halls() -> [Case; 1] {
     [lists()]
-}
-
-pub fn all() -> impl Iterator<Item = Case> {
-    let of_sheets = of_songs().into_iter().chain(of_readings());
-    of_sheets.chain(of_halls())
 }
 
 /// Stops where our libraries and the Rust differ on a song: then the times would not be those of the same work. The

@@ -1,4 +1,5 @@
-//! Times: the sides of a case take turns in many short rounds, so that what disturbs the machine disturbs all.
+//! Times: the sides of a case take turns in many short rounds, so that what disturbs the machine disturbs all. A search
+//! is set beside so much that its rounds are few and long.
 
 use crate::cases::{Asked, Case, Side};
 use std::hint::black_box;
@@ -42,26 +43,47 @@ fn rounds(case: &mut Case, songs: &[Asked], passes: usize) -> Vec<Vec<f64>> {
     times
 }
 
-/// Prints a case's times for the songs, which are of one style.
-pub fn report(mut case: Case, songs: &[Asked]) {
-    // some hundreds of rounds
+/// Whose times they are, and the times round by round.
+type Rounds<'a> = (&'a str, &'a [f64]);
+
+/// The ratio of the medians, and the quartiles of the rounds' own.
+fn ratio((over, overs): Rounds, (under, unders): Rounds) -> String {
+    let ratios: Vec<f64> = overs.iter().zip(unders).map(|(o, u)| o / u).collect();
+    format!(
+        "{over} / {under} {:.2}, quartiles {:.2} and {:.2} of {} rounds",
+        quantile(overs, 0.5) / quantile(unders, 0.5),
+        quantile(&ratios, 0.25),
+        quantile(&ratios, 0.75),
+        ratios.len(),
+    )
+}
+
+/// Prints a case's times, and how the first side's compare with those of each other one.
+fn print(mut case: Case, songs: &[Asked], compared: fn(Rounds, Rounds) -> String) {
+    // some hundreds of rounds over the 2,000 songs
     let passes = case.batch.div_ceil(4);
     let times = rounds(&mut case, songs, passes);
     let title = case.title(songs[0].style);
     let (first, ours) = (&case.sides[0], &times[0]);
     for (side, theirs) in case.sides.iter().zip(&times).skip(1) {
-        let ratios: Vec<f64> = ours.iter().zip(theirs).map(|(o, t)| o / t).collect();
-        let (o, t) = (quantile(ours, 0.5), quantile(theirs, 0.5));
         println!(
-            "{title}: {} {o:.2} µs, {} {t:.2} µs; {} / {} {:.2}, quartiles {:.2} and {:.2} of {} rounds",
+            "{title}: {} {:.2} µs, {} {:.2} µs; {}",
             first.name,
+            quantile(ours, 0.5),
             side.name,
-            first.name,
-            side.whose(),
-            o / t,
-            quantile(&ratios, 0.25),
-            quantile(&ratios, 0.75),
-            ratios.len(),
+            quantile(theirs, 0.5),
+            compared((first.name, ours), (side.whose(), theirs)),
         );
     }
+}
+
+/// Prints a case's times for the songs, which are of one style, and what share of the others' times the first side
+/// takes.
+pub fn report(case: Case, songs: &[Asked]) {
+    print(case, songs, ratio);
+}
+
+/// The same, but how many times as long as the first side the others take, where the share would be next to nothing.
+pub fn report_times_as_long(case: Case, songs: &[Asked]) {
+    print(case, songs, |first, other| ratio(other, first));
 }

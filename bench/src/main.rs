@@ -1,9 +1,11 @@
-//! Measures our static libraries and the Rust on the same songs, our reading of sheets beside composing them, and
-//! our lists of halls beside plain C. The Rust's own files stand beside this one when it is compiled (see `run`).
+//! Measures our static libraries and the Rust on the same songs, our reading of sheets beside composing them, our
+//! search for a lesson's seed beside composing each seed, and our lists of halls beside plain C. The Rust's own files
+//! stand beside this one when it is compiled (see `run`).
 //!
-//! `bench times` prints times for songs, `bench readings` those for sheets read back, `bench lists` those for lists,
-//! `bench stack` the stack that our calls took. `bench sides` says what can be counted, and `bench count CASE SIDE
-//! STYLE` does it for a few songs or halls inside `bench_measured`, for a tool that counts instructions.
+//! `bench times` prints times for songs, `bench readings` those for sheets read back, `bench searches` those for
+//! searches, `bench lists` those for lists, `bench stack` the stack that our calls took. `bench sides` says what can be
+//! counted, and `bench count CASE SIDE STYLE` does it for a few songs, spans or halls inside `bench_measured`, for a
+//! tool that counts instructions.
 
 // the Rust's files are compiled whole, and the driver asks for a part of them
 #[allow(dead_code, unused_imports)]
@@ -15,22 +17,25 @@ mod style;
 #[allow(dead_code)]
 mod synth;
 
-// of the list, our wrapper's C function alone is asked for: its safe call makes a vector
+// of the list and the search, our wrapper's C functions alone are asked for: the list's safe call makes a vector
 #[allow(dead_code)]
 #[path = "wrapper/seqochanu.rs"]
 mod seqochanu;
 
 mod cases;
 mod clock;
+mod searches;
 mod stack;
 mod sum;
 mod writer;
 
-use cases::{Asked, Side};
+use cases::{Asked, Case, Side};
 use std::hint::black_box;
 
-/// How many seeds are timed, and how many are counted.
+/// How many seeds are timed, how many spans, whose songs take most of a second to compose, and how many of either are
+/// counted.
 const TIMED: u64 = 2000;
+const SPANS: u64 = 11;
 const COUNTED: u64 = 20;
 
 fn songs(style: u8, count: u64) -> Vec<Asked> {
@@ -71,6 +76,18 @@ fn readings() {
     }
 }
 
+fn searches() {
+    for style in [0, 1] {
+        let starts = songs(style, SPANS);
+        for &a in &starts {
+            searches::check(a);
+        }
+        for case in searches::of_spans() {
+            clock::report_times_as_long(case, &starts);
+        }
+    }
+}
+
 fn lists() {
     let halls = songs(0, TIMED);
     for a in &halls {
@@ -81,9 +98,16 @@ fn lists() {
     }
 }
 
+fn cases() -> impl Iterator<Item = Case> {
+    let of_sheets = cases::of_songs().into_iter().chain(cases::of_readings());
+    of_sheets
+        .chain(searches::of_spans())
+        .chain(cases::of_halls())
+}
+
 /// A line for each thing that can be counted: what `count` is told, then its name.
 fn sides() {
-    for (i, case) in cases::all().enumerate() {
+    for (i, case) in cases().enumerate() {
         let sides = case.sides.iter().enumerate();
         for (k, side) in sides.filter(|(_, side)| side.counted) {
             for &style in case.styles {
@@ -110,7 +134,7 @@ fn bench_measured(side: &mut Side, songs: &[Asked]) {
 
 fn count(case: usize, side: usize, style: u8) {
     let songs = songs(style, COUNTED);
-    let side = &mut cases::all().nth(case).expect("a case").sides[side];
+    let side = &mut cases().nth(case).expect("a case").sides[side];
     // a first run outside, after which nothing is made or looked up once for all
     for &a in &songs {
         black_box((side.run)(a));
@@ -125,12 +149,13 @@ fn main() {
     match words[..] {
         ["times"] => times(),
         ["readings"] => readings(),
+        ["searches"] => searches(),
         ["lists"] => lists(),
         ["sides"] => sides(),
         ["count", case, side, style] => {
             count(number(case), number(side), number(style) as u8);
         }
         ["stack"] => stack::report([songs(0, TIMED), songs(1, TIMED)].concat()),
-        _ => panic!("times, readings, lists, sides, count CASE SIDE STYLE, or stack"),
+        _ => panic!("times, readings, searches, lists, sides, count CASE SIDE STYLE, or stack"),
     }
 }
