@@ -95,14 +95,18 @@ module _ (s : NoiseStream) (style : Style) where
       let c = pickOf (b .stream) 12 in
       length-map (loopAt (a .value) (b .value)) (chordIn (c .value)) ∙ row-length (a .value) (b .value) (pick-lt (a .stream) (rowsOf (a .value)) (rows-some (a .value)))
 
+  -- two draws come before the key's
+  pub key-next : pickOf (chanceOf s (majorShareOf style) .stream) (rowsOf (chanceOf s (majorShareOf style) .value)) .stream ≡ after s 2
+  key-next =
+      let a = chanceOf s (majorShareOf style) in
+      pick-advances (a .stream) (rowsOf (a .value)) ∙ after-on s (a .stream) 1 2 (chance-advances s (majorShareOf style)) refl
+
   harmony-advances : harmonyOf s style .stream ≡ after s 3
   unfolding harmonyOf
   harmony-advances =
       let a = chanceOf s (majorShareOf style) in
       let b = pickOf (a .stream) (rowsOf (a .value)) in
-      let one = chance-advances s (majorShareOf style) in
-      let two = pick-advances (a .stream) (rowsOf (a .value)) ∙ after-on s (a .stream) 1 2 one refl in
-      pick-advances (b .stream) 12 ∙ after-on s (b .stream) 2 3 two refl
+      pick-advances (b .stream) 12 ∙ after-on s (b .stream) 2 3 key-next refl
 
 -- three draws, always
 pub harmony-counter : (seed : ℕ) (style : Style) → harmonyOf (streamOf Stage.Harmony seed) style .stream .counter ≡ 3

@@ -13,8 +13,7 @@ use Rattle.streams.specs.Stage.{streamOf}
 use Rattle.streams.specs.Stream.{unitAt}
 use Rattle.streams.specs.declared.stage.Stage.{Stage}
 use Rattle.streams.specs.declared.stream.NoiseStream.{NoiseStream}
-use Rattle.streams.proofs.DrawLaws.{picked-lt, pick-number, pick-advances, chance-advances}
-use Rattle.streams.proofs.StreamLaws.{after-on}
+use Rattle.streams.proofs.DrawLaws.{picked-lt, pick-number}
 use Rattle.composer.specs.Compose.{songBy, composedOf}
 use Rattle.composer.specs.Harmony.{rowsOf, melodyPcsOf, harmonyIn, harmonyOf}
 use Rattle.composer.specs.Style.{majorShareOf}
@@ -22,6 +21,7 @@ use Rattle.composer.specs.Tempo.{beatsOf, tempoOf}
 use Rattle.composer.specs.Traits.{traitsIn, drawnKey, drawnTraits}
 use Rattle.composer.specs.Voice.{leadVoiceOf}
 use Rattle.composer.specs.declared.style.Style.{Style}
+use Rattle.composer.proofs.HarmonyLaws.{key-next}
 use Rattle.composer.proofs.TempoLaws.{beats-byte}
 
 -- a scale starts with its key
@@ -36,8 +36,7 @@ unfolding harmonyOf harmonyIn
 harmony-first s style =
     let a = chanceOf s (majorShareOf style) in
     let b = pickOf (a .stream) (rowsOf (a .value)) in
-    let two = pick-advances (a .stream) (rowsOf (a .value)) ∙ after-on s (a .stream) 1 2 (chance-advances s (majorShareOf style)) refl in
-    let third = pick-number s (b .stream) 2 12 two in
+    let third = pick-number s (b .stream) 2 12 (key-next s style) in
     rw third (scale-first (pickedOf (unitAt s 3) 12) (a .value) (picked-lt (unitAt s 3) 12 (omega arith)))
 
 module _ (style : Style) (seed : ℕ) where
