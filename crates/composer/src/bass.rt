@@ -14,7 +14,7 @@ pub mod line;
 pub mod rhythm;
 
 // The notes so far, and the stream after their draws.
-#[derive(Drop)]
+#[derive(Clone, Copy)]
 pub struct BassLane {
     pub notes: [Note; 104],
     pub count: usize,

@@ -17,7 +17,7 @@ use crate::voice::{LeadVoice, lead_voice};
 use streams::stage::Stage;
 
 // A song's score, the scale that its lead sings and the counters of its seven streams, or why there is none.
-#[derive(Drop)]
+#[derive(Clone, Copy)]
 pub struct Composed {
     pub outcome: Outcome,
     pub score: Score,

@@ -15,7 +15,7 @@ pub mod grooves;
 pub mod kit;
 
 // The first `count` hits are the lane's, in the order drawn; the others are zero.
-#[derive(Drop)]
+#[derive(Clone, Copy)]
 pub struct DrumLane {
     pub hits: [Hit; 98],
     pub count: usize,

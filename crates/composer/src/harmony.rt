@@ -8,20 +8,20 @@ use streams::draw::{chance, pick};
 use streams::stream::NoiseStream;
 
 // The pitch classes that the lead sings: the first n.
-#[derive(Drop)]
+#[derive(Clone, Copy)]
 pub struct Scale {
     pub pcs: [u8; 6],
     pub n: usize,
 }
 
-#[derive(Drop)]
+#[derive(Clone, Copy)]
 pub struct Harmony {
     pub scale: Scale,
     pub bars: [Chord; 8],
 }
 
 // A harmony, and the stream after its draws.
-#[derive(Drop)]
+#[derive(Clone, Copy)]
 pub struct HarmonyDraw {
     pub harmony: Harmony,
     pub stream: NoiseStream,

@@ -37,14 +37,14 @@ const ROLLED_SOFTER: f32 = 0.9;
 const NINTH_P: f32 = 0.2;
 
 // The rootless comp shell.
-#[derive(Drop)]
+#[derive(Clone, Copy)]
 pub struct Shell {
     pub third: u8,
     pub seventh: u8,
 }
 
 // The first `count` notes are the keys', in the order drawn; the others are zero.
-#[derive(Drop)]
+#[derive(Clone, Copy)]
 pub struct KeysLane {
     pub notes: [Note; 128],
     pub count: usize,
@@ -52,7 +52,7 @@ pub struct KeysLane {
 }
 
 // A struck shell, and the stream after its draws.
-#[derive(Drop)]
+#[derive(Clone, Copy)]
 pub struct Dyad {
     pub lower: Note,
     pub higher: Note,
@@ -60,7 +60,7 @@ pub struct Dyad {
 }
 
 // A struck chord tone, and the stream after its draws.
-#[derive(Drop)]
+#[derive(Clone, Copy)]
 pub struct Tone {
     pub note: Note,
     pub stream: NoiseStream,

@@ -8,14 +8,14 @@ use crate::score::Score;
 use crate::sort::sort_front;
 
 // The first n entries, in order; the others are 0.
-#[derive(Drop)]
+#[derive(Clone, Copy)]
 pub struct KickTimes {
     pub at: [f32; 98],
     pub n: usize,
 }
 
 // A refusal's times are empty.
-#[derive(Drop)]
+#[derive(Clone, Copy)]
 pub struct KicksAnswer {
     pub outcome: Outcome,
     pub times: KickTimes,

@@ -28,7 +28,7 @@ pub mod statement;
 pub mod tones;
 
 // The first `count` notes, in the order drawn, and the stream after their draws.
-#[derive(Drop)]
+#[derive(Clone, Copy)]
 pub struct LeadLane {
     pub notes: [Note; 56],
     pub count: usize,

@@ -3,7 +3,7 @@ ghost use Rattle.std.specs.Prelude.{◌≡◌};
 ghost use Rattle.composer.specs.Note.{role_number_of, kind_number_of};
 
 // Why a note is what it is: a lead note's role in the melody, and one for all that lies under the lead.
-#[derive(Drop)]
+#[derive(Clone, Copy)]
 pub enum NoteRole {
     Quote,
     Close,
@@ -35,7 +35,7 @@ impl NoteRole {
 // Its pitch (MIDI), its role, its time, in seconds into the loop, its velocity, and how long it is held, in seconds.
 // The bytes stand together, here and in `Hit`, so that an entry of a lane is small, and `spare`, which is 0 in every
 // song, fills the gap behind them: an array of entries without gaps is cleared at one stroke.
-#[derive(Drop)]
+#[derive(Clone, Copy)]
 pub struct Note {
     pub bar: u8,
     pub midi: u8,
@@ -46,7 +46,7 @@ pub struct Note {
     pub dur: f32,
 }
 
-#[derive(Drop)]
+#[derive(Clone, Copy)]
 pub enum DrumKind {
     Kick,
     Snare,
@@ -68,7 +68,7 @@ impl DrumKind {
     }
 }
 
-#[derive(Drop)]
+#[derive(Clone, Copy)]
 pub struct Hit {
     pub bar: u8,
     pub kind: DrumKind,

@@ -5,7 +5,7 @@ use crate::style::Style;
 use crate::voice::LeadVoice;
 
 // The first `_count` entries of a lane are its events, in the order drawn; the others are zero.
-#[derive(Drop)]
+#[derive(Clone, Copy)]
 pub struct Score {
     pub style: Style,
     pub bpm: f32,
@@ -22,7 +22,7 @@ pub struct Score {
 }
 
 // How many draws each stage's stream has made.
-#[derive(Drop)]
+#[derive(Clone, Copy)]
 pub struct Counters {
     pub harmony: u64,
     pub tempo: u64,

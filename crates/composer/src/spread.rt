@@ -5,21 +5,21 @@ ghost use Rattle.composer.specs.Spread.{between_of, draw_of, after_of, jitter_of
 use streams::stream::NoiseStream;
 
 // A uniform draw from `base` up to `base + span`.
-#[derive(Drop)]
+#[derive(Clone, Copy)]
 pub struct Spread {
     pub base: f32,
     pub span: f32,
 }
 
 // A timing jitter `width` wide, `early` of it before the grid.
-#[derive(Drop)]
+#[derive(Clone, Copy)]
 pub struct Jitter {
     pub early: f32,
     pub width: f32,
 }
 
 // What was drawn, and the stream after its draw.
-#[derive(Drop)]
+#[derive(Clone, Copy)]
 pub struct Drawn {
     pub value: f32,
     pub stream: NoiseStream,

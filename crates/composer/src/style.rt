@@ -6,7 +6,7 @@ use crate::spread::{Spread, between};
 use streams::draw::{ChanceDraw, chance};
 use streams::stream::NoiseStream;
 
-#[derive(Drop)]
+#[derive(Clone, Copy)]
 pub enum Style {
     Hiphop,
     Sleep,
@@ -25,7 +25,7 @@ impl Style {
 }
 
 // The chance of what a style may not do at all.
-#[derive(Drop)]
+#[derive(Clone, Copy)]
 pub enum Odds {
     Never,
     Chance(f32),
@@ -47,7 +47,7 @@ impl Odds {
 }
 
 // The lead's window, the chance that a bar rests and that a slot sounds, how hard and how long a note is.
-#[derive(Drop)]
+#[derive(Clone, Copy)]
 pub struct LeadStyle {
     pub lo: u8,
     pub hi: u8,
@@ -58,20 +58,20 @@ pub struct LeadStyle {
 }
 
 // The chance that an eighth strikes: drawn once a song, or the same in every song with no draw.
-#[derive(Drop)]
+#[derive(Clone, Copy)]
 pub enum Density {
     Drawn(Spread),
     Fixed(f32),
 }
 
 // What the keys strike: a rolled shell of third and seventh, or one chord tone.
-#[derive(Drop)]
+#[derive(Clone, Copy)]
 pub enum Comp {
     Shell,
     Single,
 }
 
-#[derive(Drop)]
+#[derive(Clone, Copy)]
 pub struct KeysStyle {
     pub density: Density,
     pub velocity: Spread,
@@ -80,7 +80,7 @@ pub struct KeysStyle {
 }
 
 // The chance of a fifth, the chance of a pickup, and the root's velocity.
-#[derive(Drop)]
+#[derive(Clone, Copy)]
 pub struct BassStyle {
     pub fifth_p: f32,
     pub pickup_p: Odds,

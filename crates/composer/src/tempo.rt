@@ -10,7 +10,7 @@ use streams::float::truncated;
 use streams::stream::NoiseStream;
 
 // The tempo as a whole number, and the stream after its draw.
-#[derive(Drop)]
+#[derive(Clone, Copy)]
 pub struct TempoDraw {
     pub beats: u8,
     pub stream: NoiseStream,

@@ -6,7 +6,7 @@ use crate::band::band;
 use crate::style::Style;
 use streams::stream::NoiseStream;
 
-#[derive(Drop)]
+#[derive(Clone, Copy)]
 pub enum LeadVoice {
     EpVel,
     Pluck,
@@ -15,7 +15,7 @@ pub enum LeadVoice {
 }
 
 // A voice, and the stream after its draw.
-#[derive(Drop)]
+#[derive(Clone, Copy)]
 pub struct VoiceDraw {
     pub voice: LeadVoice,
     pub stream: NoiseStream,

@@ -1,7 +1,7 @@
 // What a search for a lesson answers.
 use composer::refusal::Refusal;
 
-#[derive(Drop)]
+#[derive(Clone, Copy)]
 pub enum Lesson {
     Seed(u64),
     Refused(Refusal),

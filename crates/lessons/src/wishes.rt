@@ -5,7 +5,7 @@ ghost use Rattle.lessons.specs.Wishes.{is_unknown};
 
 use composer::traits::Traits;
 
-#[derive(Drop)]
+#[derive(Clone, Copy)]
 pub struct Wishes {
     // 0 to 11, the first entry of the scale; 12 for any
     pub key: u8,

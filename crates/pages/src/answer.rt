@@ -5,7 +5,7 @@ ghost use Rattle.pages.specs.Answer.{Writes, written_of, buffer_of, written_coun
 use crate::put::put_bytes;
 use composer::refusal::Refusal;
 
-#[derive(Drop)]
+#[derive(Clone, Copy)]
 pub enum Written {
     // how many bytes it wrote
     Bytes(usize),

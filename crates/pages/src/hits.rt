@@ -30,7 +30,7 @@ fn is_early(beat_s: f32, h: Hit) -> bool
 }
 
 // Which hits of a bar a page shows: all, those that are not early, or those that are.
-#[derive(Drop)]
+#[derive(Clone, Copy)]
 pub enum Part {
     All,
     Late,
@@ -108,7 +108,7 @@ fn put_part(buf: &mut [u8], at: usize, s: Score, run: Run, part: Part) -> usize
 
 // Where a page's hits stand in the lane, and how many they are: the own bar's that are in a part, and the next
 // bar's that are early.
-#[derive(Drop)]
+#[derive(Clone, Copy)]
 pub struct HeardRuns {
     pub own: Run,
     pub part: Part,

@@ -15,7 +15,7 @@ use crate::put::{put_f32, put_head, put_u8};
 use composer::note::{Hit, Note};
 use composer::score::Score;
 
-#[derive(Drop)]
+#[derive(Clone, Copy)]
 pub enum Lane {
     Lead,
     Keys,
@@ -24,7 +24,7 @@ pub enum Lane {
 }
 
 // The events of a lane from `from` on, before `to`.
-#[derive(Drop)]
+#[derive(Clone, Copy)]
 pub struct Run {
     pub from: usize,
     pub to: usize,

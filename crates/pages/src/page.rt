@@ -49,7 +49,7 @@ fn put_chord(buf: &mut [u8], at: usize, s: Score, on: bool, bar: u8) -> usize
 }
 
 // Where the notes of one loop bar stand in each lane.
-#[derive(Drop)]
+#[derive(Clone, Copy)]
 pub struct Runs {
     pub lead: Run,
     pub keys: Run,

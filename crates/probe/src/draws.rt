@@ -9,7 +9,7 @@ use streams::float::bits_of;
 use streams::stream::{NoiseStream, UnitDraw, WordDraw};
 
 // What is drawn.
-#[derive(Drop)]
+#[derive(Clone, Copy)]
 pub enum Kind {
     Word,
     Unit,

@@ -4,7 +4,7 @@ ghost use Rattle.probe.specs.Stages.{stage_of, seed_answer, seed_buffer};
 
 use streams::stage::Stage;
 
-#[derive(Drop)]
+#[derive(Clone, Copy)]
 pub enum StageAnswer {
     Unknown,
     Known(Stage),

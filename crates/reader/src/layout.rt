@@ -8,7 +8,7 @@ use pages::edition::Edition;
 use pages::get::{byte_at, u16_at};
 
 // The edition, where the body of each of the ten fields begins, how long it is, and where the tenth ends.
-#[derive(Drop)]
+#[derive(Clone, Copy)]
 pub struct Layout {
     pub edition: Edition,
     pub bodies: [usize; 10],

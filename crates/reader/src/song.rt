@@ -21,7 +21,7 @@ use pages::edition::Edition;
 use pages::get::{byte_in, f32_at, u64_at};
 
 // What a sheet names, and the edition that it is of; style and voice stand in the score.
-#[derive(Drop)]
+#[derive(Clone, Copy)]
 pub struct Song {
     pub edition: Edition,
     pub seed: u64,
@@ -31,7 +31,7 @@ pub struct Song {
 }
 
 // How a reading went, and its song; where it is refused the song is zero throughout.
-#[derive(Drop)]
+#[derive(Clone, Copy)]
 pub struct Read {
     pub outcome: Outcome,
     pub song: Song,

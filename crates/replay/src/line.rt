@@ -1,7 +1,7 @@
 // A line of data/: a letter and three words of 16 hexadecimal digits.
 ghost use Rattle.std.specs.Prelude.{◌<◌};
 
-#[derive(Drop)]
+#[derive(Clone, Copy)]
 pub struct Line {
     pub what: u8,
     pub a: u64,

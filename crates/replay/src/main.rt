@@ -7,7 +7,7 @@ mod asked;
 mod line;
 
 // What became of a line.
-#[derive(Drop)]
+#[derive(Clone, Copy)]
 enum Outcome {
     End,
     Agrees,
@@ -30,7 +30,7 @@ fn ask_next(fd: i32) -> Outcome {
     Outcome::Differs
 }
 
-#[derive(Drop)]
+#[derive(Clone, Copy)]
 struct Count {
     lines: u64,
     agree: u64,

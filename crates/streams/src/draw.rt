@@ -5,13 +5,13 @@ ghost use Rattle.streams.specs.Draw.{picked_of, pick_of, chance_of, coin_of};
 use crate::float::truncated;
 use crate::stream::NoiseStream;
 
-#[derive(Drop)]
+#[derive(Clone, Copy)]
 pub struct PickDraw {
     pub value: u8,
     pub stream: NoiseStream,
 }
 
-#[derive(Drop)]
+#[derive(Clone, Copy)]
 pub struct ChanceDraw {
     pub value: bool,
     pub stream: NoiseStream,

@@ -5,7 +5,7 @@ ghost use Rattle.streams.specs.Stage.{id_of, stream_of};
 use crate::mix::{splitmix_draw, splitmix64};
 use crate::stream::NoiseStream;
 
-#[derive(Drop)]
+#[derive(Clone, Copy)]
 pub enum Stage {
     Form,
     Harmony,

@@ -4,20 +4,20 @@ ghost use Rattle.streams.specs.Stream.{new_of, after, next_u64_of, unit_of};
 
 use crate::mix::splitmix_draw;
 
-#[derive(Drop)]
+#[derive(Clone, Copy)]
 pub struct NoiseStream {
     pub seed: u64,
     pub counter: u64,
 }
 
 // A draw beside the stream that has made it.
-#[derive(Drop)]
+#[derive(Clone, Copy)]
 pub struct WordDraw {
     pub value: u64,
     pub stream: NoiseStream,
 }
 
-#[derive(Drop)]
+#[derive(Clone, Copy)]
 pub struct UnitDraw {
     pub value: f32,
     pub stream: NoiseStream,

@@ -37,7 +37,7 @@ const PICKUP_VELOCITY: Spread = Spread {
 const BASS_GATE: f32 = 0.9;
 
 // What a bar is played from: its number, its root's class and the next bar's, its steps and the next bar's first.
-#[derive(Drop)]
+#[derive(Clone, Copy)]
 pub struct BarPart {
     pub bar: u8,
     pub root_pc: u8,
@@ -47,7 +47,7 @@ pub struct BarPart {
 }
 
 // A note as drawn, and the stream after its draws.
-#[derive(Drop)]
+#[derive(Clone, Copy)]
 pub struct Strike {
     pub at: f32,
     pub midi: u8,
@@ -56,7 +56,7 @@ pub struct Strike {
 }
 
 // A note as played, and the stream after its draws.
-#[derive(Drop)]
+#[derive(Clone, Copy)]
 pub struct PlayedNote {
     pub note: Note,
     pub stream: NoiseStream,

@@ -6,28 +6,28 @@ use streams::draw::chance;
 use streams::stream::NoiseStream;
 
 // The first n of `at`: the root's step, in the first beat, then the later ones that sound.
-#[derive(Drop)]
+#[derive(Clone, Copy)]
 pub struct Steps {
     pub at: [u8; 13],
     pub n: usize,
 }
 
 // The root's step, and the stream after its draws.
-#[derive(Drop)]
+#[derive(Clone, Copy)]
 pub struct RootDraw {
     pub step: u8,
     pub stream: NoiseStream,
 }
 
 // A bar's steps so far, and the stream after their draws.
-#[derive(Drop)]
+#[derive(Clone, Copy)]
 pub struct StepsDraw {
     pub steps: Steps,
     pub stream: NoiseStream,
 }
 
 // The rhythms of all bars, and the stream after their draws.
-#[derive(Drop)]
+#[derive(Clone, Copy)]
 pub struct Rhythms {
     pub bars: [Steps; 8],
     pub stream: NoiseStream,

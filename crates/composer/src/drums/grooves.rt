@@ -5,7 +5,7 @@ ghost use Rattle.composer.specs.Drums.Grooves.{hiphop_groove_of};
 use crate::spread::Spread;
 
 // A kick: the beat it lands on in even bars and in odd ones, and its gain.
-#[derive(Drop)]
+#[derive(Clone, Copy)]
 pub struct Kick {
     pub even: f32,
     pub odd: f32,
@@ -13,7 +13,7 @@ pub struct Kick {
 }
 
 // Whether only the off-eighths may strike, the chance that a slot stays silent, and the off-eighths' swing.
-#[derive(Drop)]
+#[derive(Clone, Copy)]
 pub struct Hats {
     pub off_eighths_only: bool,
     pub skip_p: f32,
@@ -23,7 +23,7 @@ pub struct Hats {
 
 // The first `snare_count` entries of `snares` are the beats that the snare lands on. The kicks land
 // `drag_s` seconds behind the grid. A ghost kick and an open hat may end each statement and answer.
-#[derive(Drop)]
+#[derive(Clone, Copy)]
 pub struct Groove {
     pub first: Kick,
     pub second: Kick,

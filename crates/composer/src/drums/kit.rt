@@ -11,7 +11,7 @@ use streams::stream::NoiseStream;
 
 // One bar of a groove: its number in the loop, where it starts, how long its beats are, and the
 // wobble that all its hits share.
-#[derive(Drop)]
+#[derive(Clone, Copy)]
 pub struct Bar {
     pub number: u8,
     pub start: f32,
@@ -20,7 +20,7 @@ pub struct Bar {
 }
 
 // A hit, and the stream after its draws.
-#[derive(Drop)]
+#[derive(Clone, Copy)]
 pub struct Struck {
     pub hit: Hit,
     pub stream: NoiseStream,

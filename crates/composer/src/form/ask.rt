@@ -6,14 +6,14 @@ use crate::form::Form;
 use crate::form::plays::{ALL, Plays};
 use crate::refusal::{Outcome, Refusal};
 
-#[derive(Drop)]
+#[derive(Clone, Copy)]
 pub enum PlaysAnswer {
     Found(Plays),
     Refused(Refusal),
 }
 
 // A refusal's form is the lent one.
-#[derive(Drop)]
+#[derive(Clone, Copy)]
 pub struct FormAnswer {
     pub outcome: Outcome,
     pub form: Form,

@@ -6,7 +6,7 @@ use crate::form::decisions::{Cut, Decisions, Thinning};
 use crate::form::plays::Plays;
 
 // What the bars of one phrase lose.
-#[derive(Drop)]
+#[derive(Clone, Copy)]
 pub struct Phrase {
     // what the thinning mutes: the drums, the bass
     pub breaks: bool,

@@ -9,7 +9,7 @@ use streams::draw::picked;
 use streams::stream::NoiseStream;
 
 // How a song opens.
-#[derive(Drop)]
+#[derive(Clone, Copy)]
 pub enum Opening {
     // some layers sit out the intro
     Sparse(Plays),
@@ -19,7 +19,7 @@ pub enum Opening {
 }
 
 // How a song closes.
-#[derive(Drop)]
+#[derive(Clone, Copy)]
 pub enum Closing {
     // some layers sit out the outro
     Sparse(Plays),
@@ -30,7 +30,7 @@ pub enum Closing {
 }
 
 // What drops out in the body's middle phrase.
-#[derive(Drop)]
+#[derive(Clone, Copy)]
 pub enum Thinning {
     Break,
     BassDrop,
@@ -38,14 +38,14 @@ pub enum Thinning {
 }
 
 // A phrase's cut: whether it is drawn, the bars it takes, and whether the bass leaves with the beat.
-#[derive(Drop)]
+#[derive(Clone, Copy)]
 pub struct Cut {
     pub on: bool,
     pub bars: u8,
     pub low: bool,
 }
 
-#[derive(Drop)]
+#[derive(Clone, Copy)]
 pub struct Decisions {
     pub opening: Opening,
     pub long_intro: bool,
@@ -62,14 +62,14 @@ pub struct Decisions {
 }
 
 // The decisions and the stream after their draws.
-#[derive(Drop)]
+#[derive(Clone, Copy)]
 pub struct Decided {
     pub decisions: Decisions,
     pub stream: NoiseStream,
 }
 
 // All 29 draws, and the stream after them.
-#[derive(Drop)]
+#[derive(Clone, Copy)]
 pub struct Units {
     pub values: [f32; 29],
     pub stream: NoiseStream,

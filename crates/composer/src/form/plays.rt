@@ -2,7 +2,7 @@
 ghost use Rattle.std.specs.Prelude.{cond, ◌≡◌, ◌≤◌};
 ghost use Rattle.composer.specs.Form.Plays.{bits_of};
 
-#[derive(Drop)]
+#[derive(Clone, Copy)]
 pub struct Plays {
     pub pad: bool,
     pub keys: bool,

@@ -6,7 +6,7 @@ use crate::form::Form;
 use crate::form::plays::Plays;
 use crate::form::song::arrange;
 
-#[derive(Drop)]
+#[derive(Clone, Copy)]
 pub enum SpansAnswer {
     NoneMutes,
     NoneMoves,

@@ -6,7 +6,7 @@ ghost use Rattle.composer.specs.Lead.Beats.{beats_of, left_at, remove_of, size_o
 use crate::sort::sort_front;
 
 // The first n entries; the others are 0.
-#[derive(Drop)]
+#[derive(Clone, Copy)]
 pub struct Beats {
     pub at: [f32; 7],
     pub n: usize,

@@ -8,7 +8,7 @@ use crate::spread::Spread;
 use crate::style::LeadStyle;
 
 // `strong` has the tones of a strong beat: none is the root, where there are others.
-#[derive(Drop)]
+#[derive(Clone, Copy)]
 pub struct Ground {
     pub lo: u8,
     pub hi: u8,

@@ -12,7 +12,7 @@ const QUOTE_NOTES: usize = 2;
 const LAST_BAR: u8 = 7;
 
 // Note i of a bar: whether it closes the loop, as the last note of bar 7, and whether its beat is strong.
-#[derive(Drop)]
+#[derive(Clone, Copy)]
 pub struct Place {
     pub bar: u8,
     pub i: usize,
@@ -21,7 +21,7 @@ pub struct Place {
 }
 
 // The last two notes, `from` and `prev`, the first `heads` notes of bar 0, and the stream.
-#[derive(Drop)]
+#[derive(Clone, Copy)]
 pub struct Line {
     pub stream: NoiseStream,
     pub from: u8,

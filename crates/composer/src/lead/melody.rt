@@ -21,7 +21,7 @@ const START_LIFT: u8 = 2;
 const PEAK_ACCENT: f32 = 0.06;
 
 // A note before it is played: its bar, its beat in the bar, pitch, role and velocity.
-#[derive(Drop)]
+#[derive(Clone, Copy)]
 pub struct LeadNote {
     pub bar: u8,
     pub note: u8,
@@ -31,7 +31,7 @@ pub struct LeadNote {
 }
 
 // One step of the melody, and the line after it.
-#[derive(Drop)]
+#[derive(Clone, Copy)]
 pub struct LeadStep {
     pub note: u8,
     pub role: Role,
@@ -40,7 +40,7 @@ pub struct LeadStep {
 }
 
 // The first `count` notes are sung.
-#[derive(Drop)]
+#[derive(Clone, Copy)]
 pub struct Sung {
     pub notes: [LeadNote; 56],
     pub count: usize,

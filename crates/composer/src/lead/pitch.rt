@@ -27,7 +27,7 @@ const DRIFTS: u8 = 9;
 const SKIP_P: f32 = 0.3;
 
 // A pitch, and the stream after what it drew.
-#[derive(Drop)]
+#[derive(Clone, Copy)]
 pub struct PitchDraw {
     pub note: u8,
     pub stream: NoiseStream,

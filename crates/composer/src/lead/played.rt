@@ -22,7 +22,7 @@ const LEAD_ACCENT: Spread = Spread {
 };
 
 // A note as played, and the stream after its draws.
-#[derive(Drop)]
+#[derive(Clone, Copy)]
 pub struct PlayedNote {
     pub note: Note,
     pub stream: NoiseStream,

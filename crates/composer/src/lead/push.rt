@@ -10,7 +10,7 @@ use streams::float::fract;
 use streams::stream::NoiseStream;
 
 // A bar's beats, and the stream after their draws.
-#[derive(Drop)]
+#[derive(Clone, Copy)]
 pub struct BeatsDraw {
     pub beats: Beats,
     pub stream: NoiseStream,

@@ -10,7 +10,7 @@ use crate::style::LeadStyle;
 use streams::stream::NoiseStream;
 
 // The statement's four bars, then the answer's, and the stream after their draws.
-#[derive(Drop)]
+#[derive(Clone, Copy)]
 pub struct Rhythm {
     pub bars: [Beats; 8],
     pub stream: NoiseStream,

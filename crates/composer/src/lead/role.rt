@@ -19,7 +19,7 @@ const LEAP: u8 = 4;
 // The chance that an off-beat note is a chord tone.
 const CHORD_TONE_P: f32 = 0.55;
 
-#[derive(Drop)]
+#[derive(Clone, Copy)]
 pub enum Role {
     // the answer opens on the statement's opening notes
     Quote,
@@ -52,7 +52,7 @@ impl Role {
 }
 
 // A role, and the stream after what its choice drew.
-#[derive(Drop)]
+#[derive(Clone, Copy)]
 pub struct RoleDraw {
     pub role: Role,
     pub stream: NoiseStream,

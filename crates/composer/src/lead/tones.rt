@@ -6,14 +6,14 @@ use crate::chord::{Chord, OCTAVE};
 use crate::lead::scale::has;
 
 // Notes in ascending order: the first n of `at`, which has one for each semitone of the widest window.
-#[derive(Drop)]
+#[derive(Clone, Copy)]
 pub struct Tones {
     pub at: [u8; 20],
     pub n: usize,
 }
 
 // A chord's tones, and those of them that are of another class than its root.
-#[derive(Drop)]
+#[derive(Clone, Copy)]
 pub struct ChordTones {
     pub tones: Tones,
     pub rootless: Tones,
