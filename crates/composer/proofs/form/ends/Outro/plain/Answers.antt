@@ -1,0 +1,5 @@
+-- Each arm is its clause. Assumes nothing.
+use Rattle.composer.proofs.form.ends.Outro.plain.Goals as goal
+
+pub returns-in-Ends : goal.returns-in-Ends
+returns-in-Ends c = rw (c.self-1.given.1, c.plain.ensures)

@@ -1,0 +1,8 @@
+-- Each arm is its clause. Assumes nothing.
+use Rattle.composer.proofs.form.song.intro_plays.Goals as goal
+
+pub returns-in-Edged : goal.returns-in-Edged
+returns-in-Edged c = rw c.enum_told-1.given.1
+
+pub returns-in-Cold : goal.returns-in-Cold
+returns-in-Cold c = rw c.enum_told-in-Cold-1.given.1

@@ -1,0 +1,11 @@
+-- One draw, or none. Assumes nothing.
+use Rattle.composer.specs.Keys.{density_draw_of}
+use Rattle.composer.proofs.keys.density_draw.Goals as goal
+
+pub returns-in-Drawn : goal.returns-in-Drawn
+unfolding density_draw_of
+returns-in-Drawn c = rw c.d-1.given.1 c.draw.ensures
+
+pub returns-in-Fixed : goal.returns-in-Fixed
+unfolding density_draw_of
+returns-in-Fixed c = rw c.d-in-Fixed-1.given.1

@@ -1,0 +1,139 @@
+-- After b bars the lane is the definition's, with at most 16 notes for each; after e eighths of a bar, with at most two for each. Assumes nothing.
+use mathlib.Core.Path.{◌≡◌, refl}
+use mathlib.Core.Logic.{⊎_elim}
+use Prim.Native.Nat.{◌+◌, ◌-◌, ◌≤◌}
+use native.Mathlib.Omega.{arith}
+use native.Mathlib.Numerals.{add-one}
+use lib.ListN.{get_or}
+use Rattle.composer.specs.Chord.{past_chord}
+use Rattle.composer.specs.Keys.{bar_to, bar_of, bars_to, keys_of}
+use Rattle.composer.specs.declared.chord.Chord.{Chord}
+use Rattle.composer.specs.declared.keys.KeysLane.{KeysLane}
+use Rattle.composer.proofs.keys.ShellLaws.{tonal_seventh_le, tonal_shell}
+use Rattle.composer.proofs.keys.StrokeLaws.{lane_of, eighth_rest, eighth_shell, eighth_single}
+use borrow.Author.Tests.{not-true, not-false}
+use Rattle.composer.proofs.keys.keys.Goals as goal
+use Rattle.composer.proofs.keys.keys.Goals.{After-chance-struck, In-loop-e}
+
+-- ---- an eighth's place in the loops
+abbrev Turn : Type 0
+Turn = In-loop-e invariant_loop2 decreases_loop2 invariant_loop decreases_loop
+
+abbrev chord_at : Turn → Chord
+chord_at t = get_or t.before.before.before.before.before.before.before.before.before.args.t2.bars t.before.before.before.before.before.loop.b past_chord
+
+abbrev lane_at : Turn → KeysLane
+lane_at t = lane_of t.before.loop2.notes t.before.loop2.count t.before.loop2.stream
+
+-- two more notes fit
+room : (t : Turn) → t.before.loop2.count + 2 ≤ 128
+room t = omega arith
+
+pub loop-b-init : goal.loop-b-init
+unfolding bars_to
+loop-b-init c = (omega arith, omega arith, refl)
+
+pub offset_bounds-h-b : goal.offset_bounds-h-b
+offset_bounds-h-b c = omega arith
+
+pub shell_of-shell-requires : goal.shell_of-shell-requires
+shell_of-shell-requires c =
+    tonal_shell c.args.t2 c.requires c.loop-b.b (omega arith)
+
+pub loop-e-init : goal.loop-e-init
+unfolding bar_to
+loop-e-init c = (omega arith, omega arith, refl)
+
+pub overflow_step-e : goal.overflow_step-e
+overflow_step-e c = omega arith
+
+pub loop-e-smaller-then-not-struck : goal.loop-e-smaller-then-not-struck
+loop-e-smaller-then-not-struck c = omega arith
+
+pub loop-e-preserved-then-not-struck : goal.loop-e-preserved-then-not-struck
+unfolding bar_to
+loop-e-preserved-then-not-struck c =
+    let silent = eighth_rest (lane_at (goal.at.loop-e-preserved-then-not-struck c).In-loop-e) (chord_at (goal.at.loop-e-preserved-then-not-struck c).In-loop-e) c.keys_style-k.result c.density_draw-density.result.value c.loop-b.b c.loop-e.e c.args.beat-s c.chance-struck.result c.chance-struck.ensures (not-true _ c.if-not-struck.true) in
+    (omega arith, omega arith, rw (add-one, ← c.loop-e.invariant.2) silent)
+
+pub dyad_at-dyad-requires : goal.dyad_at-dyad-requires
+dyad_at-dyad-requires c =
+    rw c.loop-e.shell-of.ensures (tonal_seventh_le c.keys_style-k.args.t2 c.keys_style-k.requires c.loop-b-test.loop.b (omega arith))
+
+pub offset_bounds-notes-count : goal.offset_bounds-notes-count
+offset_bounds-notes-count c = omega (arith, room (goal.at.offset_bounds-notes-count c).After-chance-struck)
+
+pub bounds-notes-count : goal.bounds-notes-count
+bounds-notes-count c = omega (arith, room (goal.at.bounds-notes-count c).After-chance-struck)
+
+pub overflow_add-notes : goal.overflow_add-notes
+overflow_add-notes c = omega (arith, room (goal.at.overflow_add-notes c).After-chance-struck)
+
+pub offset_bounds-notes-count-in-Shell : goal.offset_bounds-notes-count-in-Shell
+offset_bounds-notes-count-in-Shell c = omega (arith, room (goal.at.offset_bounds-notes-count-in-Shell c).After-chance-struck)
+
+pub bounds-notes-count-in-Shell : goal.bounds-notes-count-in-Shell
+bounds-notes-count-in-Shell c = omega (arith, room (goal.at.bounds-notes-count-in-Shell c).After-chance-struck)
+
+pub overflow_add-count : goal.overflow_add-count
+overflow_add-count c = omega (arith, room (goal.at.overflow_add-count c).After-chance-struck)
+
+pub offset_bounds-notes-count-in-Single : goal.offset_bounds-notes-count-in-Single
+offset_bounds-notes-count-in-Single c = omega (arith, room (goal.at.offset_bounds-notes-count-in-Single c).After-chance-struck)
+
+pub bounds-notes-count-in-Single : goal.bounds-notes-count-in-Single
+bounds-notes-count-in-Single c = omega (arith, room (goal.at.bounds-notes-count-in-Single c).After-chance-struck)
+
+pub overflow_add-count-in-Single : goal.overflow_add-count-in-Single
+overflow_add-count-in-Single c = omega (arith, room (goal.at.overflow_add-count-in-Single c).After-chance-struck)
+
+pub overflow_step-e-in-loop-e : goal.overflow_step-e-in-loop-e
+overflow_step-e-in-loop-e c = omega arith
+
+pub loop-e-smaller : goal.loop-e-smaller
+loop-e-smaller c = omega arith
+
+pub loop-e-preserved : goal.loop-e-preserved
+unfolding bar_to
+loop-e-preserved c =
+    let k = c.keys_style-k.result in
+    let p = c.density_draw-density.result.value in
+    let beat-s = c.args.beat-s in
+    let strikes = not-false _ c.if-not-struck.false in
+    let e = c.loop-e.e in
+    let few = c.loop-e.invariant.1 in
+    ⊎_elim
+    (λ w. (
+      omega (arith, c.loop-e-test.true),
+      omega (arith, w.7, few),
+      rw (add-one, ← c.loop-e.invariant.2, w.6, w.7, w.8)
+          (eighth_shell (lane_at (goal.at.loop-e-preserved c).In-loop-e) (chord_at (goal.at.loop-e-preserved c).In-loop-e) k p c.loop-b.b e beat-s c.chance-struck.result c.chance-struck.ensures strikes c.draw-lag.result c.draw-lag.ensures c.grid_at.result c.grid_at.ensures c.shell_of-shell.result c.shell_of-shell.ensures w.2.result w.2.ensures w.1.given.1),
+    ))
+    (λ w. (
+      omega (arith, c.loop-e-test.true),
+      omega (arith, w.6, few),
+      rw (add-one, ← c.loop-e.invariant.2, w.5, w.6, w.7)
+          (eighth_single (lane_at (goal.at.loop-e-preserved c).In-loop-e) (chord_at (goal.at.loop-e-preserved c).In-loop-e) k p c.loop-b.b e beat-s c.chance-struck.result c.chance-struck.ensures strikes c.draw-lag.result c.draw-lag.ensures c.grid_at.result c.grid_at.ensures w.2.result w.2.ensures w.1.given.1),
+    ))
+    c.match-comp.branch
+
+pub overflow_step-b : goal.overflow_step-b
+overflow_step-b c = omega arith
+
+pub loop-b-smaller : goal.loop-b-smaller
+loop-b-smaller c = omega arith
+
+pub loop-b-preserved : goal.loop-b-preserved
+unfolding bars_to bar_of
+loop-b-preserved c =
+    let l2 = c.loop-e in
+    let l = c.loop-b in
+    let e : l2.e ≡ 8 = omega arith in
+    (omega arith, omega arith, rw (add-one, ← l.invariant.2, ← e) l2.invariant.2)
+
+pub returns : goal.returns
+unfolding keys_of
+returns c =
+    let l = c.loop-b in
+    let e : l.b ≡ 8 = omega arith in
+    rw (l.invariant.2, e, c.density_draw-density.ensures, c.keys_style-k.ensures)

@@ -1,0 +1,18 @@
+-- The front is sorted and then thinned. Assumes nothing.
+use mathlib.Core.Path.{◌≡◌, ap, ◌∙◌}
+use mathlib.Core.List.{List}
+use Prim.Native.Nat.{min}
+use native.Mathlib.Omega.{arith}
+use lib.ListN.{length}
+use lib.Ieee.{Float, nan}
+use Rattle.laws.specs.Order.{total_le}
+use Rattle.laws.proofs.Sorts.{sorted_front}
+use Rattle.composer.specs.Lead.Beats.{beats_of, thin_of, settled}
+use Rattle.composer.proofs.lead.beats.settle.Goals as goal
+
+pub returns : goal.returns
+unfolding settled
+returns c =
+    let a = c.before.args in
+    let e : a.n ≡ min a.n (length a.a.now) = omega arith in
+    record { value = c.thinned.ensures.value ∙ ap (λ (xs : List Float). beats_of (thin_of nan xs)) (sorted_front total_le a.a.now c.sort_front-arg-1.sort-front.new.0 a.n a.n e c.sort_front-arg-1.sort-front.ensures); n_bound = c.thinned.ensures.n_bound }

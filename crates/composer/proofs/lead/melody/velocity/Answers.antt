@@ -1,0 +1,5 @@
+-- One case for each role. Assumes nothing.
+use Rattle.composer.proofs.lead.melody.velocity.Goals as goal
+
+pub returns-in-Peak : goal.returns-in-Peak
+returns-in-Peak c = rw c.enum_told-in-Peak-1.given.1

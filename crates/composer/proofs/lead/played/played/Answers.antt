@@ -1,0 +1,36 @@
+-- After i turns i notes are played. Assumes nothing.
+use mathlib.Core.Path.{refl}
+use Prim.Native.Nat.{◌-◌}
+use native.Mathlib.Omega.{arith}
+use Rattle.composer.specs.Lead.Played.{play_to}
+use Rattle.composer.proofs.lead.PlayedLaws.{lane_more, played_all}
+use Rattle.composer.proofs.lead.played.played.Goals as goal
+
+pub loop-i-init : goal.loop-i-init
+unfolding play_to
+loop-i-init c = (omega arith, omega arith, refl)
+
+pub offset_bounds-m-i : goal.offset_bounds-m-i
+offset_bounds-m-i c = omega arith
+
+pub offset_bounds-notes-i : goal.offset_bounds-notes-i
+offset_bounds-notes-i c = omega arith
+
+pub overflow_step-i : goal.overflow_step-i
+overflow_step-i c = omega arith
+
+pub loop-i-smaller : goal.loop-i-smaller
+loop-i-smaller c = omega arith
+
+pub loop-i-preserved : goal.loop-i-preserved
+loop-i-preserved c =
+    let a = c.args in
+    let l = c.loop-i in
+    let p = c.play-p in
+    (omega arith, omega arith, lane_more a.t1 a.beat-s a.dur a.t1.line.stream l.notes l.stream l.i _ p.result l.invariant.2 refl p.ensures)
+
+pub returns : goal.returns
+returns c =
+    let a = c.args in
+    let l = c.loop-i in
+    played_all a.t1 a.beat-s a.dur l.notes l.stream l.i l.invariant.2 (omega arith)

@@ -1,0 +1,21 @@
+-- The walk keeps in the window, so the snap may take any note of it. Assumes nothing.
+use native.Mathlib.Omega.{arith}
+use Rattle.composer.specs.Lead.Scale.{scale_step_of}
+use Rattle.composer.proofs.lead.ScaleLaws.{room_in, walk_in}
+use Rattle.composer.proofs.lead.scale.scale_step.Goals as goal
+
+pub walk-n-requires : goal.walk-n-requires
+walk-n-requires c =
+    let a = c.args in
+    let r = room_in a.up a.lo a.hi a.note c.room-space.ensures (omega arith) (omega arith) in
+    omega arith
+
+pub snapped-requires : goal.snapped-requires
+snapped-requires c =
+    let a = c.args in
+    let w = walk_in a.pool.now a.up a.lo a.hi a.note c.room-space.result a.steps (omega arith) (omega arith) (omega (arith, c.room-space.ensures)) in
+    omega (arith, c.walk-n.ensures)
+
+pub returns : goal.returns
+unfolding scale_step_of
+returns c = rw (← c.room-space.ensures, ← c.walk-n.ensures) c.snapped.ensures

@@ -1,0 +1,35 @@
+-- The best rank so far holds the best note; against what is left it gives the nearest of all. Assumes nothing.
+use mathlib.Core.Path.{sym, ap, ◌∙◌}
+use Prim.Native.Nat.{ℕ, ◌+◌, ◌-◌, ◌%◌, ◌<◌}
+use native.Mathlib.Omega.{arith}
+use lib.ListN.{drop, get_or}
+use Rattle.composer.specs.Lead.Tones.{closest}
+use Rattle.composer.proofs.lead.TonesLaws.{near_first, near_next, near_end, rank_note, rank_first, rank_next}
+use Rattle.composer.proofs.lead.tones.nearest.Goals as goal
+
+pub loop-i-init : goal.loop-i-init
+loop-i-init c =
+    let a = c.args in
+    let x = get_or a.notes.now 0 0 in
+    let small : x < 256 = omega (arith, c.shared_slice_known-2-1.given 0) in
+    let e = c.rank-best.ensures in
+    (omega arith, rw e (rank_first a.target x small), rw (e, rank_note a.target x small) (near_first a.target a.notes.now (omega arith)))
+
+pub overflow_add-i : goal.overflow_add-i
+overflow_add-i c = omega arith
+
+pub loop-i-smaller : goal.loop-i-smaller
+loop-i-smaller c = omega arith
+
+pub loop-i-preserved : goal.loop-i-preserved
+loop-i-preserved c =
+    let a = c.args in
+    let l = c.loop-i in
+    let x = get_or a.notes.now l.i 0 in
+    let small : x < 256 = omega (arith, c.shared_slice_known-in-loop-i-1.given l.i) in
+    let next = rank_next a.target l.best x small l.invariant.1 in
+    rw (c.least-best.ensures, c.rank.ensures)
+    (omega arith, next.1, l.invariant.2 ∙ near_next a.target (l.best % 256) a.notes.now l.i (omega arith) ∙ ap (λ (k : ℕ). closest a.target k (drop (l.i + 1) a.notes.now)) (sym next.0))
+
+pub returns : goal.returns
+returns c = sym (c.loop-i.invariant.2 ∙ near_end _ _ _ _ c.loop-i-test.false)

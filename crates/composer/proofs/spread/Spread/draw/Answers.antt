@@ -1,0 +1,7 @@
+-- One draw, and the definition's own operations. Assumes nothing.
+use Rattle.composer.specs.Spread.{draw_of}
+use Rattle.composer.proofs.spread.Spread.draw.Goals as goal
+
+pub returns : goal.returns
+unfolding draw_of
+returns c = rw c.unit-d.ensures

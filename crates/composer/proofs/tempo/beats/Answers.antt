@@ -1,0 +1,23 @@
+-- Each call is its definition, and the window is far below 2^24, and within a byte. Assumes nothing.
+use Prim.Native.Nat.{◌<◌}
+use native.Mathlib.Omega.{arith}
+use Rattle.composer.specs.Tempo.{beats_of, tempo_draw_of}
+use Rattle.composer.proofs.TempoLaws.{drawn_small, beats_byte}
+use Rattle.composer.proofs.tempo.beats.Goals as goal
+
+pub rounded-n-requires : goal.rounded-n-requires
+rounded-n-requires c =
+    let a = c.args in
+    rw (c.draw-d.ensures, c.bpm-window.ensures) (drawn_small a.s a.style)
+
+pub overflow_cast-result : goal.overflow_cast-result
+unfolding beats_of
+overflow_cast-result c =
+    let a = c.args in
+    let byte : c.rounded-n.result < 256 = rw (c.rounded-n.ensures, c.draw-d.ensures, c.bpm-window.ensures) (beats_byte a.s a.style) in
+    omega arith
+
+pub returns : goal.returns
+unfolding tempo_draw_of beats_of
+returns c =
+    rw (c.rounded-n.ensures, c.draw-d.ensures, c.bpm-window.ensures)

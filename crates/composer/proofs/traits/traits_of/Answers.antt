@@ -1,0 +1,12 @@
+-- Each call is its definition, and the draws give the song's traits. Assumes nothing.
+use Rattle.composer.specs.Tempo.{tempo_draw_of}
+use Rattle.composer.specs.Traits.{drawn_traits}
+use Rattle.composer.specs.Voice.{lead_voice_of}
+use Rattle.composer.proofs.TraitsLaws.{traits_drawn}
+use Rattle.composer.proofs.traits.traits_of.Goals as goal
+
+pub returns : goal.returns
+unfolding drawn_traits tempo_draw_of lead_voice_of
+returns c =
+    let a = c.args in
+    rw (traits_drawn a.style a.seed, c.lead_voice-vd.ensures, c.stream-vs.ensures, c.beats-td.ensures, c.stream-ts.ensures, c.drawn_key-key.ensures)

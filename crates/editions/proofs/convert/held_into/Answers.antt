@@ -1,0 +1,26 @@
+-- The song is composed once, for the test and for what is written. Assumes nothing.
+use mathlib.Core.Path.{◌∙◌}
+use Rattle.editions.proofs.ConvertLaws.{held_same, held_other, composed_promised, composed_asked, composed_most, own_held}
+use borrow.Author.Tests.{not-true, not-false}
+use Rattle.editions.proofs.convert.held_into.Goals as goal
+
+pub is_own-own-requires : goal.is_own-own-requires
+is_own-own-requires c =
+    let v = c.args.v in
+    record { promised = composed_promised v c.number-number.ensures c.compose-song.ensures; song_in_bounds = composed_most v c.number-number.ensures c.compose-song.ensures v.edition }
+
+pub returns-then-not-own : goal.returns-then-not-own
+returns-then-not-own c =
+    let a = c.args in
+    let e = held_other a.wanted a.sheet.now a.v (own_held a.v c.number-number.ensures c.compose-song.ensures a.sheet.now c.is_own-own.ensures ∙ not-true _ c.if-not-own.true) in
+    record { value = rw e; buf_after = rw e }
+
+pub composed_into-requires : goal.composed_into-requires
+composed_into-requires c =
+    composed_promised c.args.v c.number-number.ensures c.compose-song.ensures
+
+pub returns : goal.returns
+returns c =
+    let a = c.args in
+    let e = held_same a.wanted a.sheet.now a.v (own_held a.v c.number-number.ensures c.compose-song.ensures a.sheet.now c.is_own-own.ensures ∙ not-false _ c.if-not-own.false) in
+    rw (e, ← composed_asked a.v c.number-number.ensures c.compose-song.ensures a.wanted) c.composed_into.ensures

@@ -1,0 +1,23 @@
+-- By the two tests. Assumes nothing.
+use mathlib.Core.Path.{sym, ◌∙◌}
+use native.Mathlib.Omega.{arith}
+use Rattle.halls.proofs.ListLaws.{list_outside, list_short, list_served}
+use Rattle.halls.proofs.list.hall_list.Goals as goal
+
+pub returns-then-outside : goal.returns-then-outside
+returns-then-outside c =
+    let a = c.args in
+    list_outside a.hall a.count a.buf.now (sym c.is_outside-outside.ensures ∙ c.if-outside.true)
+
+pub returns-then-buf-count : goal.returns-then-buf-count
+returns-then-buf-count c =
+    let a = c.args in
+    list_short a.hall a.count a.buf.now (sym c.is_outside-outside.ensures ∙ c.if-outside.false) (omega arith)
+
+pub put_seeds-n-requires : goal.put_seeds-n-requires
+put_seeds-n-requires c = omega arith
+
+pub returns : goal.returns
+returns c =
+    let a = c.args in
+    list_served a.hall a.count a.buf.now (sym c.is_outside-outside.ensures ∙ c.if-outside.false) c.put_seeds-n.ensures

@@ -1,0 +1,8 @@
+-- Each part by its test. Assumes nothing.
+use Rattle.pages.proofs.hits.in_part.Goals as goal
+
+pub returns-in-Late : goal.returns-in-Late
+returns-in-Late c = rw (c.enum_told-in-Late-1.given.1, c.is_early.ensures)
+
+pub returns-in-Early : goal.returns-in-Early
+returns-in-Early c = rw (c.enum_told-in-Early-1.given.1, c.is_early-in-Early.ensures)

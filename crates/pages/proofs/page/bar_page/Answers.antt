@@ -1,0 +1,31 @@
+-- The composer's outcome decides: a refusal is passed on, and a song has its page. Assumes nothing.
+use mathlib.Core.Path.{sym, ap, ◌∙◌}
+use Rattle.composer.specs.Compose.{compose_of}
+use Rattle.composer.specs.Form.Song.{arrange_of}
+use Rattle.composer.specs.declared.compose.Composed.{Composed}
+use Rattle.composer.specs.declared.refusal.Outcome.{Outcome}
+use Rattle.composer.proofs.ComposeLaws.{done_promise, events_promise}
+use Rattle.pages.specs.Answer.{asked_by, written_of, buffer_of}
+use Rattle.pages.specs.Page.{page_of, page_asked}
+use Rattle.pages.proofs.WritableLaws.{paged}
+use lib.ListN.{length}
+use Rattle.pages.proofs.page.bar_page.Goals as goal
+
+pub page_of-requires : goal.page_of-requires
+page_of-requires c =
+    let e = c.compose-song.ensures in
+    let p = done_promise c.args.style c.args.seed (ap (λ (x : Composed). x.outcome) (sym e) ∙ c.enum_told-1.given.1) in
+    rw e (paged (compose_of c.args.style c.args.seed).score (events_promise p), p.range.chord_size_lem)
+
+pub returns-in-Refused : goal.returns-in-Refused
+unfolding page_asked
+returns-in-Refused c =
+    let a = c.args in
+    let e = ap (λ (x : Composed). x.outcome) (sym c.compose-song.ensures) ∙ c.outcome-1.given.1 in
+    let page = page_of (compose_of a.style a.seed).score (arrange_of a.seed) a.bar in
+    record { value = sym (ap (λ (o : Outcome). written_of (length a.buf.now) (asked_by o page)) e); buf_after = sym (ap (λ (o : Outcome). buffer_of a.buf.now (asked_by o page)) e) }
+
+pub returns-in-Done : goal.returns-in-Done
+unfolding page_asked
+returns-in-Done c =
+    rw (← c.compose-song.ensures, c.enum_told-1.given.1, ← c.arrange-form.ensures) c.page_of.ensures

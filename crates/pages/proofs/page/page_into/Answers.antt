@@ -1,0 +1,43 @@
+-- The size by the runs is this very page's length, which decides between refusal 2 and the page. Assumes nothing.
+use mathlib.Core.Path.{◌≡◌, refl}
+use native.Mathlib.Omega.{arith}
+use borrow.Author.Tests.{ltb-true, ltb-false}
+use Rattle.laws.proofs.Writes.{wrote_as}
+use Rattle.composer.specs.Form.{loop_bar_of}
+use Rattle.pages.specs.Hits.{page_hits}
+use Rattle.pages.specs.Inner.Hits.{run_hits, HitsWithin}
+use Rattle.pages.specs.Page.{page_bytes}
+use Rattle.pages.specs.declared.lane.Lane.{Lane}
+use Rattle.pages.proofs.AnswerLaws.{refused, served}
+use Rattle.pages.proofs.HitsLaws.{runs_hits, hits_within_lem}
+use Rattle.pages.proofs.PageLaws.{page_length, run_held, size_is}
+use Rattle.pages.proofs.page.page_into.Goals as goal
+
+pub page_size-size-requires : goal.page_size-size-requires
+page_size-size-requires c =
+    let bar = c.loop_bar-looped.result in
+    let a = c.args in
+    let held = run_held a.s c.requires.paged.lanes in
+    rw c.runs_in-runs.ensures (((held Lane.Lead a.p.keys bar, held Lane.Keys a.p.keys bar), held Lane.Bass a.p.bass bar), c.heard_runs-hits.ensures.count_bound)
+
+pub returns-then-buf-size : goal.returns-then-buf-size
+returns-then-buf-size c =
+    let a = c.args in
+    let size = size_is a.s c.requires.paged.lanes a.p a.f a.bar c.loop_bar-looped.ensures.value c.runs_in-runs.ensures c.heard_runs-hits.ensures.value c.page_size-size.ensures in
+    let hits = page_hits a.s a.f a.bar in
+    refused a.buf.now (page_bytes a.s a.p (loop_bar_of a.f a.bar) hits)
+    (omega (arith, ltb-true, size, page_length a.s c.requires.chorded.0 a.p (loop_bar_of a.f a.bar) hits (omega arith)))
+
+pub put_page-n-requires : goal.put_page-n-requires
+put_page-n-requires c =
+    let a = c.args in
+    let size = size_is a.s c.requires.paged.lanes a.p a.f a.bar c.loop_bar-looped.ensures.value c.runs_in-runs.ensures c.heard_runs-hits.ensures.value c.page_size-size.ensures in
+    let within : HitsWithin a.s c.heard_runs-hits.result = rw c.heard_runs-hits.ensures.value (hits_within_lem a.s c.requires.paged.lanes a.f a.bar) in
+    (c.requires.paged, (c.requires.chorded.0, (c.loop_bar-looped.ensures.upper_bound, (c.runs_in-runs.ensures, (within, (c.heard_runs-hits.ensures.count_bound, rw (c.loop_bar-looped.ensures.value, c.heard_runs-hits.ensures.value) (omega (arith, ltb-false, size))))))))
+
+pub returns : goal.returns
+returns c =
+    let a = c.args in
+    let bytes : page_bytes a.s a.p c.loop_bar-looped.result (run_hits a.s c.heard_runs-hits.result) ≡ page_bytes a.s a.p (loop_bar_of a.f a.bar) (page_hits a.s a.f a.bar) =
+    rw (c.loop_bar-looped.ensures.value, c.heard_runs-hits.ensures.value, runs_hits a.s c.requires.paged.lanes a.f a.bar) in
+    served (wrote_as refl bytes c.put_page-n.ensures)

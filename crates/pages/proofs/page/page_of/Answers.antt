@@ -1,0 +1,24 @@
+-- The answer of the look-up decides, and a refusal is the look-up's own. Assumes nothing.
+use mathlib.Core.Path.{sym, ap, ◌∙◌}
+use Rattle.composer.specs.Form.{loop_bar_of}
+use Rattle.composer.specs.declared.form.ask.PlaysAnswer.{PlaysAnswer}
+use Rattle.pages.specs.Answer.{written_of, buffer_of}
+use Rattle.pages.specs.Hits.{page_hits}
+use Rattle.pages.specs.Page.{page_by}
+use Rattle.pages.proofs.PageLaws.{found_below}
+use lib.ListN.{length}
+use Rattle.pages.proofs.page.page_of.Goals as goal
+
+pub returns-in_default : goal.returns-in_default
+returns-in_default c =
+    let a = c.args in
+    let e = sym c.plays-a.ensures ∙ c.a-in_default-1.given.1 ∙ c.a-in_default-2-1.given.1 in record { value = sym (ap (λ (q : PlaysAnswer). written_of (length a.buf.now) (page_by q a.s (loop_bar_of a.f a.bar) (page_hits a.s a.f a.bar))) e); buf_after = sym (ap (λ (q : PlaysAnswer). buffer_of a.buf.now (page_by q a.s (loop_bar_of a.f a.bar) (page_hits a.s a.f a.bar))) e) }
+
+pub page_into-requires : goal.page_into-requires
+page_into-requires c =
+    (c.requires.paged, (c.requires.chorded, found_below c.args.f c.args.bar _ (sym c.plays-a.ensures ∙ c.a-1.given.1)))
+
+pub returns : goal.returns
+returns c =
+    let e = sym c.plays-a.ensures ∙ c.a-1.given.1 in
+    rw e c.page_into.ensures

@@ -1,0 +1,9 @@
+-- The head, then the number. Assumes nothing.
+use Rattle.laws.proofs.Writes.{wrote_then, wrote_first}
+use Rattle.pages.specs.Bytes.{field}
+use Rattle.pages.proofs.reply.put_refusal.Goals as goal
+
+pub returns : goal.returns
+unfolding field
+returns c =
+    rw (← c.number-number.ensures) (wrote_first (wrote_then c.put_head-at.ensures c.put_u8.ensures))

@@ -1,0 +1,5 @@
+-- Each arm is its case of the definition. Assumes nothing.
+use Rattle.pages.proofs.reply.reply.Goals as goal
+
+pub returns-in-Refused : goal.returns-in-Refused
+returns-in-Refused c = rw c.w-in-Refused-1.given.1 c.put_refusal.ensures

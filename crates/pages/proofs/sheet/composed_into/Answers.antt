@@ -1,0 +1,20 @@
+-- A song that is not refused has what its sheet asks for, by the promises of compose and arrange. Assumes nothing.
+use Rattle.composer.proofs.ComposeLaws.{events_promise}
+use Rattle.composer.proofs.form.Arranged.{arranged_promise}
+use Rattle.pages.proofs.WritableLaws.{writable}
+use Rattle.pages.proofs.sheet.composed_into.Goals as goal
+
+pub sheet_into-requires : goal.sheet_into-requires
+sheet_into-requires c =
+    let a = c.args in
+    let promise = c.requires c.enum_told-1.given.1 in
+    rw c.arrange-form.ensures (writable a.song.score (events_promise promise), (promise.range.chord_size_lem, (promise.scale_most, (arranged_promise a.seed).most)))
+
+pub returns-in-Refused : goal.returns-in-Refused
+returns-in-Refused c =
+    let e = c.outcome-1.given.1 in
+    record { value = rw e; buf_after = rw e }
+
+pub returns-in-Done : goal.returns-in-Done
+returns-in-Done c =
+    rw (c.enum_told-1.given.1, ← c.arrange-form.ensures) c.sheet_into.ensures

@@ -1,0 +1,17 @@
+-- The lane's events at its width each. Assumes nothing.
+use mathlib.Core.Path.{refl}
+use native.Mathlib.Omega.{arith}
+use Rattle.pages.specs.Lane.{count_in}
+use Rattle.pages.proofs.LaneLaws.{run_small}
+use Rattle.pages.proofs.sheet.lane_size.Goals as goal
+
+pub overflow_mul-result : goal.overflow_mul-result
+overflow_mul-result c =
+    let a = c.args in
+    let small = run_small a.s c.requires a.edition a.lane (count_in a.s a.lane) (omega arith) in
+    rw (c.count-n.ensures, c.width-width.ensures) (omega (arith, small))
+
+pub returns : goal.returns
+returns c =
+    let a = c.args in
+    rw (c.count-n.ensures, c.width-width.ensures) (refl, run_small a.s c.requires a.edition a.lane (count_in a.s a.lane) (omega arith))

@@ -1,0 +1,27 @@
+-- The size by the counts is the sheet's length. Assumes nothing.
+use mathlib.Core.Path.{◌≡◌}
+use native.Mathlib.Omega.{arith}
+use lib.ListN.{length, length-map}
+use Rattle.pages.specs.Sheet.{sheet_bytes}
+use Rattle.pages.proofs.AnswerLaws.{refused, served}
+use Rattle.pages.proofs.SheetLaws.{chords_length, sheet_length}
+use borrow.Author.Rules.{rules}
+use Rattle.pages.proofs.sheet.sheet_into.Goals as goal
+use Rattle.pages.proofs.sheet.sheet_into.Goals.{Start}
+
+-- found from the start alone; from further on it lies too deep
+six_at : (d : Start) → length d.args.scale.pcs ≡ 6
+six_at d = search rules
+
+-- `good` says of each parameter what its type does: here, how long an array in it is
+pub returns-then-buf-size : goal.returns-then-buf-size
+returns-then-buf-size c =
+    let a = c.args in
+    let eight : length a.s.bar_chords ≡ 8 = simp length-map at c.well-formed.1.1.0.1.1.1.1.0.1.0.1 in
+    let six = six_at (goal.at.returns-then-buf-size c).Start in
+    let most : length a.f.plays ≡ 64 = simp length-map at c.well-formed.1.1.1.1.0.1.1.1.1.1.1.0.1.0.1 in
+    let size = sheet_length a.edition a.seed a.s a.scale a.f c.requires.writable.lanes (chords_length a.s.bar_chords eight c.requires.chorded.0) (omega arith) (omega arith) in
+    refused a.buf.now (sheet_bytes a.edition a.seed a.s a.scale a.f) (omega arith)
+
+pub returns : goal.returns
+returns c = served c.put_sheet-n.ensures

@@ -1,0 +1,28 @@
+-- After i turns the sum has the first i events, each below 2^34. Assumes nothing.
+use mathlib.Core.Path.{◌≡◌, refl, ap, ◌∙◌}
+use Prim.Native.Nat.{◌-◌}
+use native.Mathlib.Numerals.{add-one}
+use native.Mathlib.Omega.{arith}
+use Rattle.laws.specs.Sums.{sum_to}
+use Rattle.probe.specs.Songs.{hits_sum}
+use Rattle.probe.proofs.songs.hits_sum.Goals as goal
+
+pub loop-i-init : goal.loop-i-init
+unfolding sum_to
+loop-i-init c = (omega arith, omega arith, refl)
+
+pub hit_sum-w-requires : goal.hit_sum-w-requires
+hit_sum-w-requires c = c.requires.plain_hits c.loop-i.i (omega arith)
+
+pub loop-i-preserved : goal.loop-i-preserved
+unfolding sum_to
+loop-i-preserved c =
+    let l = c.loop-i in
+    (omega arith, omega arith, rw (add-one, ← l.invariant.2, ← c.hit_sum-w.ensures.value))
+
+pub returns : goal.returns
+returns c =
+    let l = c.loop-i in
+    let a = c.args in
+    let e : l.i ≡ a.n = omega arith in
+    record { value = l.invariant.2 ∙ ap (hits_sum a.t1) e; upper_bound = omega arith }

@@ -1,0 +1,20 @@
+-- The hits tested so far, one more with each turn. Assumes nothing.
+use mathlib.Core.Path.{◌≡◌, refl}
+use Prim.Native.Nat.{◌-◌}
+use native.Mathlib.Numerals.{add-one}
+use native.Mathlib.Omega.{arith}
+use Rattle.reader.specs.Codes.{kinds_known}
+use Rattle.reader.specs.Tests.{all_to}
+use Rattle.reader.proofs.codes.kinds_known.Goals as goal
+
+pub loop-i-init : goal.loop-i-init
+unfolding all_to
+loop-i-init c = (omega arith, refl)
+
+pub loop-i-preserved : goal.loop-i-preserved
+unfolding all_to
+loop-i-preserved c = let l = c.loop-i in (omega arith, rw (c.byte_in-kind.ensures, l.invariant.1, add-one l.i))
+
+pub returns : goal.returns
+unfolding kinds_known
+returns c = let l = c.loop-i in let e : l.i ≡ c.args.n = omega arith in rw (l.invariant.1, e)

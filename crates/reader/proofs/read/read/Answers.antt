@@ -1,0 +1,31 @@
+-- What passes the tests gives its song, and anything else the refusal. Assumes nothing.
+use mathlib.Core.Path.{◌≡◌, sym, ◌∙◌}
+use native.Mathlib.Omega.{arith}
+use Rattle.composer.specs.declared.refusal.Outcome.{Outcome}
+use Rattle.reader.specs.Promise.{Octets}
+use Rattle.reader.specs.Read.{read_of}
+use Rattle.reader.proofs.AskedLaws.{passes, passes_read, read_refused_lem}
+use Rattle.reader.proofs.RoomyLaws.{formed_roomy}
+use Rattle.reader.proofs.read.read.Goals as goal
+use Rattle.reader.proofs.read.read.Goals.{After-shared_slice_known-1}
+
+octets : (c : After-shared_slice_known-1) → Octets c.args.bytes.now
+octets c i = omega (arith, c.shared_slice_known-1.given i)
+
+pub song_in-song-requires : goal.song_in-song-requires
+song_in-song-requires c =
+    let b = c.args.bytes.now in
+    let done : (read_of b).outcome ≡ Outcome.Done = sym c.outcome_of-outcome.ensures ∙ c.enum_told-1.given.1 in
+    let p = passes b done in
+    (c.layout_of-l.ensures, (formed_roomy b p.formed, p.within))
+
+pub returns-in-Refused : goal.returns-in-Refused
+returns-in-Refused c =
+    let e = sym c.outcome_of-outcome.ensures ∙ c.outcome-1.given.1 in
+    record { value = c.refused.ensures ∙ sym (read_refused_lem c.args.bytes.now _ e); octets = octets (goal.at.returns-in-Refused c).After-shared_slice_known-1 }
+
+pub returns-in-Done : goal.returns-in-Done
+returns-in-Done c =
+    let b = c.args.bytes.now in
+    let done : (read_of b).outcome ≡ Outcome.Done = sym c.outcome_of-outcome.ensures ∙ c.enum_told-1.given.1 in
+    record { value = rw c.song_in-song.ensures (sym (passes_read b (passes b done))); octets = octets (goal.at.returns-in-Done c).After-shared_slice_known-1 }

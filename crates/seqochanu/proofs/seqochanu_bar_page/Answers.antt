@@ -1,0 +1,15 @@
+-- What is written is no longer than a page's most, so the code fits; the rest is the page's. Assumes nothing.
+use mathlib.Core.Path.{ap, ◌∙◌}
+use mir.Syntax.{w64}
+use mir.ValLaws.{to_z-of_z}
+use Rattle.seqochanu.specs.Code.{code_of}
+use Rattle.seqochanu.proofs.CodeLaws.{page_count}
+use Rattle.seqochanu.proofs.seqochanu_bar_page.Goals as goal
+
+pub code-requires : goal.code-requires
+code-requires c = rw c.bar_page-w.ensures.value (page_count _ _ _ _)
+
+pub returns : goal.returns
+returns c =
+    let w = c.bar_page-w.ensures in
+    record { value = to_z-of_z w64 c.code.result (record { sfits = c.code.type-inv }) ∙ c.code.ensures ∙ ap code_of w.0; buf_after = w.1 }

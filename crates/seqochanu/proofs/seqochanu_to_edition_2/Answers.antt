@@ -1,0 +1,15 @@
+-- What is written is no longer than a sheet's most, so the code fits; the rest is the converter's. Assumes nothing.
+use mathlib.Core.Path.{ap, ◌∙◌}
+use mir.Syntax.{w64}
+use mir.ValLaws.{to_z-of_z}
+use Rattle.seqochanu.specs.Code.{code_of}
+use Rattle.seqochanu.proofs.CodeLaws.{convert_count}
+use Rattle.seqochanu.proofs.seqochanu_to_edition_2.Goals as goal
+
+pub code-requires : goal.code-requires
+code-requires c = rw c.convert-w.ensures.value (convert_count _ _ _)
+
+pub returns : goal.returns
+returns c =
+    let w = c.convert-w.ensures in
+    (to_z-of_z w64 c.code.result (record { sfits = c.code.type-inv }) ∙ c.code.ensures ∙ ap code_of w.0, w.1)

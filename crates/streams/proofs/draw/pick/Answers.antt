@@ -1,0 +1,7 @@
+-- The unit is drawn and picked by the callees. Assumes nothing.
+use Rattle.streams.specs.Draw.{pick_of}
+use Rattle.streams.proofs.draw.pick.Goals as goal
+
+pub returns : goal.returns
+unfolding pick_of
+returns c = rw (c.picked-value.ensures, c.unit-d.ensures)
