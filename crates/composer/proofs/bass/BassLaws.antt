@@ -57,5 +57,5 @@ pub bars_on : (chords : List Chord) (rs : List Steps) (style : BassStyle) (beatS
     → bars_played chords rs style beatS l b ≡ m → (i : ℕ) → i ≡ (part_of chords rs b).steps.n → (n : BassLane)
     → bar_played m (part_of chords rs b) style beatS i ≡ n → bars_played chords rs style beatS l (b + 1) ≡ n
 unfolding bars_played
-bars_on chords rs style beatS l b m so_far i ends n in_bar_lem =
-    rw (add-one, so_far) (ap (bar_played m (part_of chords rs b) style beatS) (sym ends) ∙ in-bar)
+bars_on chords rs style beatS l b m so_far i ends n in_bar =
+    rw (add-one, so_far) (ap (bar_played m (part_of chords rs b) style beatS) (sym ends) ∙ in_bar)

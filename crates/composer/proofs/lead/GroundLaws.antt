@@ -119,17 +119,17 @@ module _ (style : Style) (major : Bool) (key : ℕ) (key_lt : key < 12) where
   snap_fits : (n : ℕ) → l.lo ≤ n → n ≤ l.hi → T (fits_of pool l.lo l.hi (snapped_of pool l.lo l.hi n))
   snap_fits n a b =
       let e : l.lo + (n - l.lo) ≡ n = omega arith in
-      rw e at (every_at 20 (snaps_at style major key) (every_at 12 (λ k. every 20 (snaps_at style major k)) (snaps_all style major) key key-lt) (n - l.lo) (omega (arith, (window style).2)))
+      rw e at (every_at 20 (snaps_at style major key) (every_at 12 (λ k. every 20 (snaps_at style major k)) (snaps_all style major) key key_lt) (n - l.lo) (omega (arith, (window style).2)))
 
   module _ (d : ℕ) (d-lt : d < 6) where
     some_tones : 0 < length (tones_in (chord_in key d).notes pool no_class l.lo l.hi)
-    some_tones = ltb→lt 0 _ (every_at 6 (tones_at style major key) (every_at 12 (λ k. every 6 (tones_at style major k)) (tones_all style major) key key-lt) d d-lt)
+    some_tones = ltb→lt 0 _ (every_at 6 (tones_at style major key) (every_at 12 (λ k. every 6 (tones_at style major k)) (tones_all style major) key key_lt) d d-lt)
 
     pub some_top : 0 < length (tones_in (chord_in key d).notes pool no_class (max l.lo (l.hi - 12)) l.hi)
-    some_top = ltb→lt 0 _ (every_at 6 (top_at style major key) (every_at 12 (λ k. every 6 (top_at style major k)) (top_all style major) key key-lt) d d-lt)
+    some_top = ltb→lt 0 _ (every_at 6 (top_at style major key) (every_at 12 (λ k. every 6 (top_at style major k)) (top_all style major) key key_lt) d d-lt)
 
     pub start_fits : T (fits_of pool l.lo l.hi (start_of l (chord_in key d) pool))
-    start_fits = every_at 6 (start_at style major key) (every_at 12 (λ k. every 6 (start_at style major k)) (start_all style major) key key-lt) d d-lt
+    start_fits = every_at 6 (start_at style major key) (every_at 12 (λ k. every 6 (start_at style major k)) (start_all style major) key key_lt) d d-lt
 
     pub ground_sound : Sound pool (ground_of l (chord_in key d) pool)
     unfolding ground_of

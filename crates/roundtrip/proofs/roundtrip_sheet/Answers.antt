@@ -8,7 +8,7 @@ use Rattle.roundtrip.proofs.roundtrip_sheet.Goals as goal
 pub returns-in-Refused : goal.returns-in-Refused
 unfolding reread_asked
 returns-in-Refused c =
-    let e = rw c.read-r.ensures.value at c.outcome-1.given.1 in
+    let e = rw c.read-r.ensures.value at c.in-Refused.is in
     record { value = rw e c.number.ensures; buf_after = rw e }
 
 pub returns-in-Done : goal.returns-in-Done
@@ -17,5 +17,5 @@ returns-in-Done c =
     let w = c.write-w.ensures in
     let r = c.read-r in
     let b = c.args.sheet.now in
-    let done : (read_of b).outcome ≡ Outcome.Done = rw r.ensures.0 at c.enum_told-1.given.1 in
-    record { value = rw (done, ← r.ensures.0) (c.told.ensures ∙ ap told_of w.0); buf_after = rw (done, ← r.ensures.0) w.1.0 }
+    let done : (read_of b).outcome ≡ Outcome.Done = rw r.ensures.value at c.in-Done.is in
+    record { value = rw (done, ← r.ensures.value) (c.told.ensures ∙ ap told_of w.value); buf_after = rw (done, ← r.ensures.value) w.buf_after }

@@ -7,13 +7,13 @@ use Rattle.seqochanu.proofs.seqochanu_lesson.Goals as goal
 pub returns-in-Seed : goal.returns-in-Seed
 returns-in-Seed c =
     let l = c.lesson-answer in
-    let e = c.answer-1.given.1 in
+    let e = c.in-Seed.is in
     record { answer = l.result; allowed = l.ensures; coded = rw e; lent = rw e }
 
 pub returns-in-Refused : goal.returns-in-Refused
 returns-in-Refused c =
     let l = c.lesson-answer in
-    let e = c.answer-in-Refused-1.given.1 in
+    let e = c.in-Refused.is in
     let r = c.refusal_code in
     record {
       answer = l.result;

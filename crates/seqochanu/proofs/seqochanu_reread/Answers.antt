@@ -12,4 +12,4 @@ code-requires c = rw c.reread-w.ensures.value (reread_count _ _)
 pub returns : goal.returns
 returns c =
     let w = c.reread-w.ensures in
-    (to_z-of_z w64 c.code.result (record { sfits = c.code.type-inv }) ∙ c.code.ensures ∙ ap code_of w.0, w.1)
+    (to_z-of_z w64 c.code.result (record { sfits = c.code.type-inv }) ∙ c.code.ensures ∙ ap code_of w.value, w.1)

@@ -9,5 +9,5 @@ pub returns : goal.returns
 unfolding band_of
 returns c =
     let t = c.total-sum in
-    let few : min t.result (2 ^ 24) ≡ t.result = omega (arith, t.ensures.1) in
-    c.row_at.ensures ∙ rw (c.part-at.ensures, few, t.ensures.0)
+    let few : min t.result (2 ^ 24) ≡ t.result = omega (arith, t.ensures.upper_bound) in
+    c.row_at.ensures ∙ rw (c.part-at.ensures, few, t.ensures.value)

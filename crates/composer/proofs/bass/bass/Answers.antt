@@ -18,7 +18,7 @@ unfolding bar_played part_of
 loop-i-init c =
     let l = c.loop-b in
     let drawn = c.bass_rhythms-r.result in
-    let asks = turn_asks c.args.h c.requires drawn.bars (drawn_rising drawn c.args.s c.bass_rhythms-r.ensures) c.bass_style-knobs.result c.args.beat-s (no_bass drawn.stream) l.b (omega arith) refl in
+    let asks = turn_asks c.args.h c.requires drawn.bars (drawn_rising drawn c.args.s c.bass_rhythms-r.ensures) c.bass_style-knobs.result c.args.beat_s (no_bass drawn.stream) l.b (omega arith) refl in
     let played = ap (λ (x : BassLane). x.count) l.invariant.1 in
     (omega arith, refl, rw (c.root_class-next_pc.ensures, c.root_class-root_pc.ensures) asks.0, omega (arith, asks.1, played), omega arith, refl)
 
@@ -35,9 +35,8 @@ unfolding part_of
 loop-b-preserved c =
     let i = c.loop-i in
     let l = c.loop-b in
-    let a = c.args in
     let drawn = c.bass_rhythms-r.result in
-    (omega arith, bars_on a.h.bars drawn.bars c.bass_style-knobs.result a.beat-s (no_bass drawn.stream) l.b _ l.invariant.1 i.i (omega (arith, i.invariant.1)) _ (rw (c.root_class-next_pc.ensures, c.root_class-root_pc.ensures) at i.invariant.5))
+    (omega arith, bars_on c.args.h.bars drawn.bars c.bass_style-knobs.result c.args.beat_s (no_bass drawn.stream) l.b _ l.invariant.1 i.i (omega (arith, i.invariant.1)) _ (rw (c.root_class-next_pc.ensures, c.root_class-root_pc.ensures) at i.invariant.5))
 
 pub returns : goal.returns
 unfolding bass_of

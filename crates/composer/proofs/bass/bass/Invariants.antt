@@ -8,14 +8,14 @@ use Rattle.composer.proofs.bass.bass.Given as goal
 abbrev pub invariant-loop-i : goal.invariant-loop-i
 invariant-loop-i l =
     (l.i ≤ l.i-end) × (l.i-end ≡ l.part.steps.n) × Playable l.part × (l.initial.count + l.i-end ≤ 104) × (l.count ≡ l.initial.count + l.i)
-    × (bar_played (record { l.notes = l.initial.notes; l.count = l.initial.count; l.stream = l.initial.stream }) l.part l.knobs l.beat_s l.i ≡ record { l.notes = l.notes; l.count = l.count; l.stream = l.stream })
+    × (bar_played (record { notes = l.initial.notes; count = l.initial.count; stream = l.initial.stream }) l.part l.knobs l.beat_s l.i ≡ record { notes = l.notes; count = l.count; stream = l.stream })
 
 abbrev pub decreases-loop-i : goal.decreases-loop-i
 decreases-loop-i l = l.i-end - l.i
 
 abbrev pub invariant-loop-b : goal.invariant-loop-b
 invariant-loop-b l =
-    (l.b ≤ 8) × (bars_played l.chords l.rhythms l.knobs l.beat_s (record { l.notes = l.initial.notes; l.count = l.initial.count; l.stream = l.initial.stream }) l.b ≡ record { l.notes = l.notes; l.count = l.count; l.stream = l.stream })
+    (l.b ≤ 8) × (bars_played l.chords l.rhythms l.knobs l.beat_s (record { notes = l.initial.notes; count = l.initial.count; stream = l.initial.stream }) l.b ≡ record { notes = l.notes; count = l.count; stream = l.stream })
 
 abbrev pub decreases-loop-b : goal.decreases-loop-b
 decreases-loop-b l = 8 - l.b

@@ -8,10 +8,8 @@ use Rattle.composer.proofs.compose.compose.Goals as goal
 
 pub returns-then-style-gt1 : goal.returns-then-style-gt1
 returns-then-style-gt1 c =
-    let a = c.args in
-    c.refused.ensures ∙ sym (unknown_style a.style a.seed (omega arith))
+    c.refused.ensures ∙ sym (unknown_style c.args.style c.args.seed (omega arith))
 
 pub returns : goal.returns
 returns c =
-    let a = c.args in
-    c.composed_of.ensures ∙ ap (λ (s : Style). composed_of s a.seed) c.style_by-known.ensures ∙ sym (known_style a.style a.seed (omega arith))
+    c.composed_of.ensures ∙ ap (λ (s : Style). composed_of s c.args.seed) c.style_by-known.ensures ∙ sym (known_style c.args.style c.args.seed (omega arith))

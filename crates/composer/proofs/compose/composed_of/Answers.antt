@@ -16,8 +16,7 @@ bass-bd-requires c = rw c.harmony_of-hd.ensures (harmony_tonal c.stream-hs.resul
 pub returns : goal.returns
 unfolding song_by
 returns c =
-    let a = c.args in
-    composed_by a.style a.seed
+    composed_by c.args.style c.args.seed
     c.stream-hs.ensures c.harmony_of-hd.ensures
     c.stream-ts.ensures c.tempo-td.ensures c.beat_s_of-beat_s.ensures
     c.stream-ls.ensures c.lead-ld.ensures

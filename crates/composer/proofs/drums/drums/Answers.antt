@@ -14,8 +14,8 @@ lay_groove-requires c = rw c.hiphop_groove-g.ensures (hiphop_snares _)
 pub returns-in-Hiphop : goal.returns-in-Hiphop
 unfolding drums_of
 returns-in-Hiphop c =
-    rw (c.enum_told-1.given.1, c.lay_groove.ensures, c.hiphop_groove-g.ensures, c.pick-p.ensures)
+    rw (c.in-Hiphop.is, c.lay_groove.ensures, c.hiphop_groove-g.ensures, c.pick-p.ensures)
 
 pub returns-in-Sleep : goal.returns-in-Sleep
 unfolding drums_of
-returns-in-Sleep c = rw c.enum_told-in-Sleep-1.given.1 c.lay_groove-in-Sleep.ensures
+returns-in-Sleep c = rw c.in-Sleep.is c.lay_groove-in-Sleep.ensures

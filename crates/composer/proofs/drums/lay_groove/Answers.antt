@@ -18,8 +18,8 @@ pub loop-k-init : goal.loop-k-init
 unfolding kicks_to
 loop-k-init c =
     let l = c.loop-number in
-    let few : c.kick_count-kicks.result ≤ 3 = rw c.kick_count-kicks.ensures (kick_few c.args.t2 c.bar_of-bar.result) in
-    let room : l.count + 13 ≤ 98 = omega (arith, ap (λ (m : DrumLane). m.count) l.invariant.1, bars_most (no_hits c.args.s) c.args.t2 c.args.beat-s c.requires l.number) in
+    let few : c.kick_count-kicks.result ≤ 3 = rw c.kick_count-kicks.ensures (kick_few c.args.g c.bar_of-bar.result) in
+    let room : l.count + 13 ≤ 98 = omega (arith, ap (λ (m : DrumLane). m.count) l.invariant.1, bars_most (no_hits c.args.s) c.args.g c.args.beat_s c.requires l.number) in
     (omega arith, few, room, omega arith, refl)
 
 pub offset_bounds-hits-count : goal.offset_bounds-hits-count
@@ -138,17 +138,16 @@ loop-number-preserved c =
     let l3 = c.loop-i in
     let l2 = c.loop-k in
     let l = c.loop-number in
-    let a = c.args in
     let b = c.bar_of-bar in
     let last-kick : l2.k ≡ c.kick_count-kicks.result = omega arith in
-    let last-snare : l3.i ≡ a.t2.snare_count = omega arith in
+    let last-snare : l3.i ≡ c.args.g.snare_count = omega arith in
     let last-hat : l4.e ≡ 8 = omega arith in
-    let kicks = l2.invariant.4 ∙ ap (kicks_to (lane l.hits l.count c.draw-w.result.stream) a.t2 b.result) last-kick in
-    let snares = l3.invariant.4 ∙ ap (snares_to (lane l2.hits l2.count l2.stream) a.t2 b.result) last-snare in
-    let hats = l4.invariant.3 ∙ ap (hats_to (lane l3.hits l3.count l3.stream) a.t2 b.result) last-hat in (
+    let kicks = l2.invariant.4 ∙ ap (kicks_to (lane l.hits l.count c.draw-w.result.stream) c.args.g b.result) last-kick in
+    let snares = l3.invariant.4 ∙ ap (snares_to (lane l2.hits l2.count l2.stream) c.args.g b.result) last-snare in
+    let hats = l4.invariant.3 ∙ ap (hats_to (lane l3.hits l3.count l3.stream) c.args.g b.result) last-hat in (
       omega arith,
       rw (add-one l.number, ← l.invariant.1)
-          (bar_laid (lane l.hits l.count l.stream) a.t2 a.beat-s l.number c.draw-w.result b.result c.kick_count-kicks.result
+          (bar_laid (lane l.hits l.count l.stream) c.args.g c.args.beat_s l.number c.draw-w.result b.result c.kick_count-kicks.result
           (lane l2.hits l2.count l2.stream) (lane l3.hits l3.count l3.stream) (lane l4.hits l4.count l4.stream)
           c.draw-w.ensures b.ensures c.kick_count-kicks.ensures kicks snares hats),
     )
@@ -157,6 +156,5 @@ pub returns : goal.returns
 unfolding lay_groove_of
 returns c =
     let l = c.loop-number in
-    let a = c.args in
     let e : l.number ≡ 8 = omega arith in
-    l.invariant.1 ∙ ap (bars_to (no_hits a.s) a.t2 a.beat-s) e
+    l.invariant.1 ∙ ap (bars_to (no_hits c.args.s) c.args.g c.args.beat_s) e

@@ -10,7 +10,7 @@ use borrow.Author.Rules.{rules}
 use Rattle.composer.proofs.harmony.bar_chords.Goals as goal
 
 pub loop-b-init : goal.loop-b-init
-loop-b-init c = (omega arith, search rules, sym (map_start notes_in (replicate 4 0) 8 c.args.t1))
+loop-b-init c = (omega arith, search rules, sym (map_start notes_in (replicate 4 0) 8 c.args.bars))
 
 pub offset_bounds-bars-b : goal.offset_bounds-bars-b
 offset_bounds-bars-b c = omega arith
@@ -32,12 +32,10 @@ loop-b-smaller c = omega arith
 
 pub loop-b-preserved : goal.loop-b-preserved
 loop-b-preserved c =
-    let a = c.args in
     let l = c.loop-b in
-    (omega arith, l.invariant.1, rw l.invariant.2 (map_on notes_in (replicate 4 0) 8 a.t1 l.b past_chord (omega arith) (omega arith)))
+    (omega arith, l.invariant.1, rw l.invariant.2 (map_on notes_in (replicate 4 0) 8 c.args.bars l.b past_chord (omega arith) (omega arith)))
 
 pub returns : goal.returns
 returns c =
-    let a = c.args in
     let l = c.loop-b in
-    l.invariant.2 ∙ map_full notes_in (replicate 4 0) 8 a.t1 l.b (omega arith) l.invariant.1
+    l.invariant.2 ∙ map_full notes_in (replicate 4 0) 8 c.args.bars l.b (omega arith) l.invariant.1

@@ -9,7 +9,7 @@ use borrow.Author.Rules.{rules}
 use Rattle.composer.proofs.harmony.chords.Goals as goal
 
 pub loop-k-init : goal.loop-k-init
-loop-k-init c = (omega arith, search rules, sym (map_start (chord_in c.args.key) no_chord 8 c.args.t2))
+loop-k-init c = (omega arith, search rules, sym (map_start (chord_in c.args.key) no_chord 8 c.args.row))
 
 pub bounds-row-k : goal.bounds-row-k
 bounds-row-k c = omega arith
@@ -31,13 +31,11 @@ loop-k-smaller c = omega arith
 
 pub loop-k-preserved : goal.loop-k-preserved
 loop-k-preserved c =
-    let a = c.args in
     let l = c.loop-k in
-    (omega arith, l.invariant.1, rw (l.invariant.2, c.voiced.ensures) (map_on (chord_in a.key) no_chord 8 a.t2 l.k 0 (omega arith) (omega arith)))
+    (omega arith, l.invariant.1, rw (l.invariant.2, c.voiced.ensures) (map_on (chord_in c.args.key) no_chord 8 c.args.row l.k 0 (omega arith) (omega arith)))
 
 pub returns : goal.returns
 unfolding chords_of
 returns c =
-    let a = c.args in
     let l = c.loop-k in
-    l.invariant.2 ∙ map_full (chord_in a.key) no_chord 8 a.t2 l.k (omega arith) l.invariant.1
+    l.invariant.2 ∙ map_full (chord_in c.args.key) no_chord 8 c.args.row l.k (omega arith) l.invariant.1

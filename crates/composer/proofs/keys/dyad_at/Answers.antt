@@ -8,4 +8,4 @@ upper-high-requires c = (search rules, omega (arith, c.root_class-root_pc.ensure
 
 pub returns : goal.returns
 returns c =
-    rw (c.after-rolled.ensures, c.after-arg-1.draw.ensures, c.draw-vel.upper.ensures, c.draw-arg-2-1.root-class.ensures, c.draw-arg-1.chance.ensures)
+    rw (c.after-rolled.ensures, c.draw-vel.ensures, c.upper-high.ensures, c.root_class-root_pc.ensures, c.chance-ninth.ensures)

@@ -17,7 +17,7 @@ use Rattle.composer.proofs.keys.keys.Goals.{After-chance-struck, In-loop-e}
 
 -- ---- an eighth's place in the loops
 abbrev Turn : Type 0
-Turn = In-loop-e invariant_loop2 decreases_loop2 invariant_loop decreases_loop
+Turn = In-loop-e
 
 abbrev chord_at : Turn → Chord
 chord_at t = get_or t.before.before.before.before.before.before.before.before.before.args.t2.bars t.before.before.before.before.before.loop.b past_chord
@@ -38,7 +38,7 @@ offset_bounds-h-b c = omega arith
 
 pub shell_of-shell-requires : goal.shell_of-shell-requires
 shell_of-shell-requires c =
-    tonal_shell c.args.t2 c.requires c.loop-b.b (omega arith)
+    tonal_shell c.args.h c.requires c.loop-b.b (omega arith)
 
 pub loop-e-init : goal.loop-e-init
 unfolding bar_to
@@ -53,12 +53,12 @@ loop-e-smaller-then-not-struck c = omega arith
 pub loop-e-preserved-then-not-struck : goal.loop-e-preserved-then-not-struck
 unfolding bar_to
 loop-e-preserved-then-not-struck c =
-    let silent = eighth_rest (lane_at (goal.at.loop-e-preserved-then-not-struck c).In-loop-e) (chord_at (goal.at.loop-e-preserved-then-not-struck c).In-loop-e) c.keys_style-k.result c.density_draw-density.result.value c.loop-b.b c.loop-e.e c.args.beat-s c.chance-struck.result c.chance-struck.ensures (not-true _ c.if-not-struck.true) in
+    let silent = eighth_rest (lane_at (goal.at.loop-e-preserved-then-not-struck c).In-loop-e) (chord_at (goal.at.loop-e-preserved-then-not-struck c).In-loop-e) c.keys_style-k.result c.density_draw-density.result.value c.loop-b.b c.loop-e.e c.args.beat_s c.chance-struck.result c.chance-struck.ensures (c.if-not-struck.true) in
     (omega arith, omega arith, rw (add-one, ← c.loop-e.invariant.2) silent)
 
 pub dyad_at-dyad-requires : goal.dyad_at-dyad-requires
 dyad_at-dyad-requires c =
-    rw c.loop-e.shell-of.ensures (tonal_seventh_le c.keys_style-k.args.t2 c.keys_style-k.requires c.loop-b-test.loop.b (omega arith))
+    rw c.shell_of-shell.ensures (tonal_seventh_le c.args.h c.requires c.loop-b.b (omega arith))
 
 pub offset_bounds-notes-count : goal.offset_bounds-notes-count
 offset_bounds-notes-count c = omega (arith, room (goal.at.offset_bounds-notes-count c).After-chance-struck)
@@ -98,8 +98,8 @@ unfolding bar_to
 loop-e-preserved c =
     let k = c.keys_style-k.result in
     let p = c.density_draw-density.result.value in
-    let beat-s = c.args.beat-s in
-    let strikes = not-false _ c.if-not-struck.false in
+    let beat-s = c.args.beat_s in
+    let strikes = c.if-not-struck.false in
     let e = c.loop-e.e in
     let few = c.loop-e.invariant.1 in
     ⊎_elim

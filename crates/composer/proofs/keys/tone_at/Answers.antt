@@ -11,4 +11,4 @@ bounds-notes-p c =
 
 pub returns : goal.returns
 returns c =
-    rw (c.draw-vel.ensures, c.struct_known-1.pick.ensures)
+    rw (c.draw-vel.ensures, c.pick-p.ensures)

@@ -1,6 +1,6 @@
 -- After i turns the first i hits are heard. Assumes nothing.
 use mathlib.Core.Path.{◌≡◌}
-use mathlib.Core.List.{foldl}
+use mathlib.Core.List.{[], foldl}
 use Prim.Native.Nat.{◌≤◌, ◌-◌}
 use lib.ListN.{take}
 use Rattle.composer.specs.Kicks.{kick_times, hear_of}

@@ -12,16 +12,15 @@ pub melody-m-requires : goal.melody-m-requires
 melody-m-requires c =
     let style = c.lead_style-l in
     let rhythm = c.rhythm_of-r in
-    rw (c.pool_of-pool.ensures, style.ensures) (ready c.args.h c.requires c.args.style rhythm.result.bars (λ k b. rhythm.ensures.1 k))
+    rw (c.pool_of-pool.ensures, style.ensures) (ready c.args.h c.requires c.args.style rhythm.result.bars (λ k b. rhythm.ensures.by_index k))
 
 pub played-requires : goal.played-requires
 played-requires c =
-    let a = c.args in
     let pool = c.pool_of-pool in
     let style = c.lead_style-l in
     let rhythm = c.rhythm_of-r in
-    let r : Ready rhythm.result.bars a.h.bars pool.result style.result = rw (pool.ensures, style.ensures) (ready a.h c.requires a.style rhythm.result.bars (λ k b. rhythm.ensures.1 k)) in
-    rw c.melody-m.ensures (melody_good rhythm.result.bars a.h.bars pool.result style.result r rhythm.result.stream).1
+    let r : Ready rhythm.result.bars c.args.h.bars pool.result style.result = rw (pool.ensures, style.ensures) (ready c.args.h c.requires c.args.style rhythm.result.bars (λ k b. rhythm.ensures.by_index k)) in
+    rw c.melody-m.ensures (melody_good rhythm.result.bars c.args.h.bars pool.result style.result r rhythm.result.stream).1
 
 pub returns : goal.returns
 unfolding lead_of sung_of

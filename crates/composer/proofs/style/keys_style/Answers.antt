@@ -2,7 +2,7 @@
 use Rattle.composer.proofs.style.keys_style.Goals as goal
 
 pub returns-in-Hiphop : goal.returns-in-Hiphop
-returns-in-Hiphop c = rw (c.enum_told-1.given.1, c.between-drawn.ensures)
+returns-in-Hiphop c = rw (c.in-Hiphop.is, c.between-drawn.ensures)
 
 pub returns-in-Sleep : goal.returns-in-Sleep
-returns-in-Sleep c = rw c.enum_told-in-Sleep-1.given.1
+returns-in-Sleep c = rw c.in-Sleep.is

@@ -7,14 +7,12 @@ use Rattle.composer.proofs.tempo.beats.Goals as goal
 
 pub rounded-n-requires : goal.rounded-n-requires
 rounded-n-requires c =
-    let a = c.args in
-    rw (c.draw-d.ensures, c.bpm-window.ensures) (drawn_small a.s a.style)
+    rw (c.draw-d.ensures, c.bpm-window.ensures) (drawn_small c.args.s c.args.style)
 
 pub overflow_cast-result : goal.overflow_cast-result
 unfolding beats_of
 overflow_cast-result c =
-    let a = c.args in
-    let byte : c.rounded-n.result < 256 = rw (c.rounded-n.ensures, c.draw-d.ensures, c.bpm-window.ensures) (beats_byte a.s a.style) in
+    let byte : c.rounded-n.result < 256 = rw (c.rounded-n.ensures, c.draw-d.ensures, c.bpm-window.ensures) (beats_byte c.args.s c.args.style) in
     omega arith
 
 pub returns : goal.returns

@@ -8,5 +8,4 @@ use Rattle.composer.proofs.traits.traits_of.Goals as goal
 pub returns : goal.returns
 unfolding drawn_traits tempo_draw_of lead_voice_of
 returns c =
-    let a = c.args in
-    rw (traits_drawn a.style a.seed, c.lead_voice-vd.ensures, c.stream-vs.ensures, c.beats-td.ensures, c.stream-ts.ensures, c.drawn_key-key.ensures)
+    rw (traits_drawn c.args.style c.args.seed, c.lead_voice-vd.ensures, c.stream-vs.ensures, c.beats-td.ensures, c.stream-ts.ensures, c.drawn_key-key.ensures)

@@ -9,8 +9,8 @@ pub returns-in-Refused : goal.returns-in-Refused
 unfolding convert_asked
 returns-in-Refused c =
     let r = c.read-r.ensures in
-    let e = rw r.0 at c.outcome-1.given.1 in
-    (rw e, (rw e, r.1))
+    let e = rw r.value at c.in-Refused.is in
+    (rw e, (rw e, r.octets))
 
 pub returns-in-Done : goal.returns-in-Done
 unfolding convert_asked
@@ -18,5 +18,5 @@ returns-in-Done c =
     let w = c.held_into.ensures in
     let r = c.read-r.ensures in
     let b = c.args.sheet.now in
-    let done : (read_of b).outcome ≡ Outcome.Done = rw r.0 at c.enum_told-1.given.1 in
-    (rw (done, ← r.0) w.0, (rw (done, ← r.0) w.1, r.1))
+    let done : (read_of b).outcome ≡ Outcome.Done = rw r.value at c.in-Done.is in
+    (rw (done, ← r.value) w.value, (rw (done, ← r.value) w.buf_after, r.octets))

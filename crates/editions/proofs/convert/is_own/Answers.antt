@@ -8,17 +8,12 @@ use Rattle.editions.proofs.convert.is_own.Goals as goal
 
 pub slice_bounds-same_bytes-end : goal.slice_bounds-same_bytes-end
 slice_bounds-same_bytes-end c =
-    let a = c.args in
-    omega (arith, few (sheet_by a.edition a.seed a.song) a.room.now c.requires.song_in_bounds c.composed_into-w.ensures.value c.count-n.ensures)
+    omega (arith, few (sheet_by c.args.edition c.args.seed c.args.song) c.args.room.now c.requires.song_in_bounds c.composed_into-w.ensures.value c.count-n.ensures)
 
 pub slice_bounds-same_bytes-end-2 : goal.slice_bounds-same_bytes-end-2
 slice_bounds-same_bytes-end-2 c =
-    let s = c.before in
-    let a = s.args in
-    sym (length-take-le _ _ (omega (arith, few (sheet_by a.edition a.seed a.song) a.room.now s.requires.1 c.composed_into-arg-1.composed-into.ensures.0 c.slice_known-2-1.count.ensures)))
+    sym (length-take-le _ _ (omega (arith, few (sheet_by c.args.edition c.args.seed c.args.song) c.args.room.now c.requires.song_in_bounds c.composed_into-arg-1.composed-into.ensures.0 c.slice_known-2-1.count.ensures)))
 
 pub returns : goal.returns
 returns c =
-    let s = c.before in
-    let a = s.args in
-    c.same_bytes.ensures ∙ ap (same_bytes a.sheet.now) (whole (sheet_by a.edition a.seed a.song) a.room.now s.requires.1 c.composed_into-arg-1.composed-into.ensures.0 c.slice_known-2-1.count.ensures c.composed_into-arg-1.composed-into.ensures.1)
+    c.same_bytes.ensures ∙ ap (same_bytes c.args.sheet.now) (whole (sheet_by c.args.edition c.args.seed c.args.song) c.args.room.now c.requires.song_in_bounds c.composed_into-arg-1.composed-into.ensures.0 c.slice_known-2-1.count.ensures c.composed_into-arg-1.composed-into.ensures.1)

@@ -20,8 +20,7 @@ next a b i p = rw p
 pub returns-then-a-b : goal.returns-then-a-b
 unfolding same_bytes
 returns-then-a-b c =
-    let a = c.args in
-    rw (ne_eqb (length a.a.now) (length a.b.now) c.if-a-b.true)
+    rw (ne_eqb (length c.args.a.now) (length c.args.b.now) c.if-a-b.true)
 
 pub loop-i-init : goal.loop-i-init
 unfolding all_to
@@ -30,8 +29,7 @@ loop-i-init c = (omega arith, refl)
 pub loop-i-preserved : goal.loop-i-preserved
 loop-i-preserved c =
     let l = c.loop-i in
-    let a = c.args in
-    (omega arith, next a.a.now a.b.now l.i l.invariant.1 ∙ ap (all_to (same_at a.a.now a.b.now)) (sym (add-one l.i)))
+    (omega arith, next c.args.a.now c.args.b.now l.i l.invariant.1 ∙ ap (all_to (same_at c.args.a.now c.args.b.now)) (sym (add-one l.i)))
 
 pub returns : goal.returns
 unfolding same_bytes

@@ -6,18 +6,15 @@ use Rattle.halls.proofs.list.hall_list.Goals as goal
 
 pub returns-then-outside : goal.returns-then-outside
 returns-then-outside c =
-    let a = c.args in
-    list_outside a.hall a.count a.buf.now (sym c.is_outside-outside.ensures ∙ c.if-outside.true)
+    list_outside c.args.hall c.args.count c.args.buf.now (sym c.is_outside-outside.ensures ∙ c.if-outside.true)
 
 pub returns-then-buf-count : goal.returns-then-buf-count
 returns-then-buf-count c =
-    let a = c.args in
-    list_short a.hall a.count a.buf.now (sym c.is_outside-outside.ensures ∙ c.if-outside.false) (omega arith)
+    list_short c.args.hall c.args.count c.args.buf.now (sym c.is_outside-outside.ensures ∙ c.if-outside.false) (omega arith)
 
 pub put_seeds-n-requires : goal.put_seeds-n-requires
 put_seeds-n-requires c = omega arith
 
 pub returns : goal.returns
 returns c =
-    let a = c.args in
-    list_served a.hall a.count a.buf.now (sym c.is_outside-outside.ensures ∙ c.if-outside.false) c.put_seeds-n.ensures
+    list_served c.args.hall c.args.count c.args.buf.now (sym c.is_outside-outside.ensures ∙ c.if-outside.false) c.put_seeds-n.ensures

@@ -11,8 +11,7 @@ use Rattle.halls.proofs.list.put_seeds.Goals as goal
 
 pub loop-i-init : goal.loop-i-init
 loop-i-init c =
-    let a = c.args in
-    (omega arith, refl, wrote_as refl (sym (bytes_none a.hall)) (wrote_none a.buf.now 0 (omega arith)))
+    (omega arith, refl, wrote_as refl (sym (bytes_none c.args.hall)) (wrote_none c.args.buf.now 0 (omega arith)))
 
 pub overflow_add-i : goal.overflow_add-i
 overflow_add-i c = omega arith
@@ -29,9 +28,8 @@ loop-i-smaller c = omega arith
 pub loop-i-preserved : goal.loop-i-preserved
 loop-i-preserved c =
     let l = c.loop-i in
-    let a = c.args in
     let w = wrote_then l.invariant.2 c.put_u64-at.ensures in
-    let e = ap (λ (x : ℕ). list_bytes a.hall l.i ++ be64 x) c.splitmix_draw-seed.ensures ∙ sym (bytes_on a.hall l.i) in
+    let e = ap (λ (x : ℕ). list_bytes c.args.hall l.i ++ be64 x) c.splitmix_draw-seed.ensures ∙ sym (bytes_on c.args.hall l.i) in
     (omega arith, omega (arith, wrote_length c.put_u64-at.ensures), wrote_as (omega arith) e w)
 
 pub shape_of-buf : goal.shape_of-buf
@@ -40,6 +38,5 @@ shape_of-buf c = omega arith
 pub returns : goal.returns
 returns c =
     let l = c.loop-i in
-    let a = c.args in
-    let e : l.i ≡ a.count = omega arith in
-    wrote_as (ap (λ (n : ℕ). 8 * n) e) (ap (list_bytes a.hall) e) l.invariant.2
+    let e : l.i ≡ c.args.count = omega arith in
+    wrote_as (ap (λ (n : ℕ). 8 * n) e) (ap (list_bytes c.args.hall) e) l.invariant.2

@@ -6,20 +6,16 @@ use Rattle.lessons.proofs.lesson.checked.Goals as goal
 
 pub returns-then-style-gt1 : goal.returns-then-style-gt1
 returns-then-style-gt1 c =
-    let a = c.args in
-    sym (by_style a.style a.start a.count a.wishes (omega arith))
+    sym (by_style c.args.style c.args.start c.args.count c.args.wishes (omega arith))
 
 pub returns-then-is_no_span : goal.returns-then-is_no_span
 returns-then-is_no_span c =
-    let a = c.args in
-    sym (by_span a.style a.start a.count a.wishes (omega arith) (sym c.is_no_span.ensures ∙ c.if-is_no_span.true))
+    sym (by_span c.args.style c.args.start c.args.count c.args.wishes (omega arith) (sym c.is_no_span.ensures ∙ c.if-is_no_span.true))
 
 pub returns-then-is_unknown : goal.returns-then-is_unknown
 returns-then-is_unknown c =
-    let a = c.args in
-    sym (by_wish a.style a.start a.count a.wishes (omega arith) (sym c.is_no_span.ensures ∙ c.if-is_no_span.false) (sym c.is_unknown.ensures ∙ c.if-is_unknown.true))
+    sym (by_wish c.args.style c.args.start c.args.count c.args.wishes (omega arith) (sym c.is_no_span.ensures ∙ c.if-is_no_span.false) (sym c.is_unknown.ensures ∙ c.if-is_unknown.true))
 
 pub returns : goal.returns
 returns c =
-    let a = c.args in
-    sym (by_none a.style a.start a.count a.wishes (omega arith) (sym c.is_no_span.ensures ∙ c.if-is_no_span.false) (sym c.is_unknown.ensures ∙ c.if-is_unknown.false))
+    sym (by_none c.args.style c.args.start c.args.count c.args.wishes (omega arith) (sym c.is_no_span.ensures ∙ c.if-is_no_span.false) (sym c.is_unknown.ensures ∙ c.if-is_unknown.false))

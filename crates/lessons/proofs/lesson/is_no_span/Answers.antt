@@ -6,15 +6,12 @@ use Rattle.lessons.proofs.lesson.is_no_span.Goals as goal
 
 pub returns-then-count-lt1 : goal.returns-then-count-lt1
 returns-then-count-lt1 c =
-    let a = c.args in
-    sym (seeds_none a.start a.count (omega arith))
+    sym (seeds_none c.args.start c.args.count (omega arith))
 
 pub returns-then-count-gt65536 : goal.returns-then-count-gt65536
 returns-then-count-gt65536 c =
-    let a = c.args in
-    sym (seeds_many a.start a.count (omega arith))
+    sym (seeds_many c.args.start c.args.count (omega arith))
 
 pub returns : goal.returns
 returns c =
-    let a = c.args in
-    seeds_by a.start a.count (omega arith) (omega arith) (omega arith)
+    seeds_by c.args.start c.args.count (omega arith) (omega arith) (omega arith)

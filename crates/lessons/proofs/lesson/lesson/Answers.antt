@@ -9,19 +9,16 @@ use Rattle.lessons.proofs.lesson.lesson.Goals as goal
 
 pub search-requires : goal.search-requires
 search-requires c =
-    let a = c.args in
-    (done_told a.style a.start a.count a.wishes (sym c.checked-outcome.ensures ∙ c.enum_told-1.given.1)).1.last
+    (done_told c.args.style c.args.start c.args.count c.args.wishes (sym c.checked-outcome.ensures ∙ c.in-Done.is)).1.last
 
 pub returns-in-Refused : goal.returns-in-Refused
 returns-in-Refused c =
-    let a = c.args in
-    allowed_refused a.style a.start a.count a.wishes _ (sym c.checked-outcome.ensures ∙ c.outcome-1.given.1)
+    allowed_refused c.args.style c.args.start c.args.count c.args.wishes _ (sym c.checked-outcome.ensures ∙ c.in-Refused.is)
 
 pub returns-in-Done : goal.returns-in-Done
 returns-in-Done c =
-    let a = c.args in
-    let done = sym c.checked-outcome.ensures ∙ c.enum_told-1.given.1 in
+    let done = sym c.checked-outcome.ensures ∙ c.in-Done.is in
     let x = c.search.result in
-    allowed_found a.style a.start a.count a.wishes x done
-    (found_by a.style a.wishes (done_told a.style a.start a.count a.wishes done).0 a.start a.count (lesson_answered x)
-    (subst (λ (s : Style). Found (SuitsIn s a.wishes) a.start a.count (lesson_answered x)) c.style_by-known.ensures c.search.ensures))
+    allowed_found c.args.style c.args.start c.args.count c.args.wishes x done
+    (found_by c.args.style c.args.wishes (done_told c.args.style c.args.start c.args.count c.args.wishes done).0 c.args.start c.args.count (lesson_answered x)
+    (subst (λ (s : Style). Found (SuitsIn s c.args.wishes) c.args.start c.args.count (lesson_answered x)) c.style_by-known.ensures c.search.ensures))

@@ -3,7 +3,7 @@ use mathlib.Core.Path.{sym, ◌∙◌}
 use Rattle.pages.proofs.bar.plays_drums.Goals as goal
 
 pub returns-in-Found : goal.returns-in-Found
-returns-in-Found c = rw (sym c.plays-a.ensures ∙ c.a-1.given.1)
+returns-in-Found c = rw (sym c.plays-a.ensures ∙ c.in-Found.is)
 
 pub returns-in-Refused : goal.returns-in-Refused
-returns-in-Refused c = rw (sym c.plays-a.ensures ∙ c.enum_told-1.given.1)
+returns-in-Refused c = rw (sym c.plays-a.ensures ∙ c.in-Refused.is)

@@ -6,18 +6,18 @@ use Rattle.pages.proofs.edition.put_edition.Goals as goal
 
 pub put_head-a-requires : goal.put_head-a-requires
 put_head-a-requires c =
-    record { size_bound = omega arith; at_in_bounds = omega (arith, rw c.enum_told-in-Two-1.given.1 at c.requires) }
+    record { size_bound = omega arith; at_in_bounds = omega (arith, rw c.in-Two.is at c.requires) }
 
 pub put_u8-requires : goal.put_u8-requires
 put_u8-requires c =
     let w = c.put_head-a.ensures in
-    omega (arith, w.next, wrote_length w, rw c.enum_told-in-Two-1.given.1 at c.requires)
+    omega (arith, w.next, wrote_length w, rw c.in-Two.is at c.requires)
 
 pub returns-in-One : goal.returns-in-One
 returns-in-One c =
-    rw c.enum_told-1.given.1 (wrote_none c.args.buf.now c.args.at (omega (arith, c.requires)))
+    rw c.in-One.is (wrote_none c.args.buf.now c.args.at (omega (arith, c.requires)))
 
 pub returns-in-Two : goal.returns-in-Two
 unfolding field
 returns-in-Two c =
-    rw c.enum_told-in-Two-1.given.1 (wrote_then c.put_head-a.ensures c.put_u8.ensures)
+    rw c.in-Two.is (wrote_then c.put_head-a.ensures c.put_u8.ensures)

@@ -11,19 +11,17 @@ use Rattle.pages.proofs.get.finite_at.Goals as goal
 
 pub returns-then-a-lt127 : goal.returns-then-a-lt127
 returns-then-a-lt127 c =
-    let a = c.args in
     let few = c.shared_slice_known-1.given in
-    let x = byte_at a.bytes.now a.at in
-    let y = byte_at a.bytes.now (a.at + 1) in
+    let x = byte_at c.args.bytes.now c.args.at in
+    let y = byte_at c.args.bytes.now (c.args.at + 1) in
     let small : x < 127 = omega (arith, c.if-a-lt127.true, c.byte_in-a.ensures) in
-    let low : be16_at a.bytes.now (a.at + 2) < 65536 = omega (arith, few (a.at + 2), few (a.at + 2 + 1)) in
+    let low : be16_at c.args.bytes.now (c.args.at + 2) < 65536 = omega (arith, few (c.args.at + 2), few (c.args.at + 2 + 1)) in
     sym (ap (λ (b : Bool). b || ltb y 128) (lt-ltb (x % 128) 127 (omega arith)))
-    ∙ finite_first x y (be16_at a.bytes.now (a.at + 2)) (omega arith) (omega (arith, few (a.at + 1))) low
+    ∙ finite_first x y (be16_at c.args.bytes.now (c.args.at + 2)) (omega arith) (omega (arith, few (c.args.at + 1))) low
 
 pub returns : goal.returns
 returns c =
-    let a = c.args in
     let few = c.shared_slice_known-1.given in
-    let low : be16_at a.bytes.now (a.at + 2) < 65536 = omega (arith, few (a.at + 2), few (a.at + 2 + 1)) in
+    let low : be16_at c.args.bytes.now (c.args.at + 2) < 65536 = omega (arith, few (c.args.at + 2), few (c.args.at + 2 + 1)) in
     rw (c.byte_in-b.ensures, c.byte_in-a.ensures)
-    (finite_first (byte_at a.bytes.now a.at) (byte_at a.bytes.now (a.at + 1)) (be16_at a.bytes.now (a.at + 2)) (omega (arith, few a.at)) (omega (arith, few (a.at + 1))) low)
+    (finite_first (byte_at c.args.bytes.now c.args.at) (byte_at c.args.bytes.now (c.args.at + 1)) (be16_at c.args.bytes.now (c.args.at + 2)) (omega (arith, few c.args.at)) (omega (arith, few (c.args.at + 1))) low)

@@ -2,7 +2,7 @@
 use Rattle.pages.proofs.hits.in_part.Goals as goal
 
 pub returns-in-Late : goal.returns-in-Late
-returns-in-Late c = rw (c.enum_told-in-Late-1.given.1, c.is_early.ensures)
+returns-in-Late c = rw (c.in-Late.is, c.is_early.ensures)
 
 pub returns-in-Early : goal.returns-in-Early
-returns-in-Early c = rw (c.enum_told-in-Early-1.given.1, c.is_early-in-Early.ensures)
+returns-in-Early c = rw (c.in-Early.is, c.is_early-in-Early.ensures)

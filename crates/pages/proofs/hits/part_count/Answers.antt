@@ -36,10 +36,9 @@ pub loop-i-preserved : goal.loop-i-preserved
 loop-i-preserved c =
     let l = c.loop-i in
     let b = c.beat_s_of-beat_s.result in
-    let a = c.args in
     let p = c.requires.sized_lanes.hits in
-    let one : c.one-n.result ≡ cond (in_part a.part b (get_or a.s.hits l.i past_hit)) 1 0 = c.one-n.ensures.value ∙ ap (λ (t : Bool). cond t 1 0) c.in_part-on.ensures in
-    let more = filter_run_count (in_part a.part b) a.s.hits a.run.from l.i past_hit l.invariant.0 (omega (arith, p.few, p.size)) in
+    let one : c.one-n.result ≡ cond (in_part c.args.part b (get_or c.args.s.hits l.i past_hit)) 1 0 = c.one-n.ensures.value ∙ ap (λ (t : Bool). cond t 1 0) c.in_part-on.ensures in
+    let more = filter_run_count (in_part c.args.part b) c.args.s.hits c.args.run.from l.i past_hit l.invariant.0 (omega (arith, p.few, p.size)) in
     (omega arith, omega arith, omega (arith, c.one-n.ensures.upper_bound), omega (arith, one, more, l.invariant.3))
 
 pub returns : goal.returns

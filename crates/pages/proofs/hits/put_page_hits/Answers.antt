@@ -7,17 +7,17 @@ use Rattle.pages.proofs.hits.put_page_hits.Goals as goal
 pub put_part-b-requires : goal.put_part-b-requires
 put_part-b-requires c =
     let w = c.put_head-a.ensures in
-    let q = c.requires.hits_within.0 in
-    (c.requires.writable, (q.own, omega (arith, w.next, wrote_length w, parts_count c.args.s c.args.h q, c.requires.hits_within.1.1)))
+    let q = c.requires.hits_within in
+    (c.requires.writable, (q.own, omega (arith, w.next, wrote_length w, parts_count c.args.s c.args.h q, c.requires.count_in_bounds)))
 
 pub put_part-requires : goal.put_part-requires
 put_part-requires c =
-    let q = c.requires.hits_within.0 in
+    let q = c.requires.hits_within in
     let w = wrote_then c.put_head-a.ensures c.put_part-b.ensures in
-    (c.requires.writable, (q.next, omega (arith, w.next, wrote_length w, parts_count c.args.s c.args.h q, c.requires.hits_within.1.1)))
+    (c.requires.writable, (q.next, omega (arith, w.next, wrote_length w, parts_count c.args.s c.args.h q, c.requires.count_in_bounds)))
 
 pub returns : goal.returns
 returns c =
-    let q = c.requires.hits_within.0 in
+    let q = c.requires.hits_within in
     wrote_as (omega (arith, parts_count c.args.s c.args.h q)) (parts_field c.args.s c.args.h q)
     (wrote_then c.put_head-a.ensures (wrote_then c.put_part-b.ensures c.put_part.ensures))

@@ -14,9 +14,8 @@ use Rattle.pages.proofs.hits.put_part.Goals as goal
 pub loop-i-init : goal.loop-i-init
 unfolding filter_of joined
 loop-i-init c =
-    let a = c.args in
-    let e : a.run.from - a.run.from ≡ 0 = omega arith in
-    (omega arith, omega arith, refl, rw e (wrote_none a.buf.now a.at (omega arith)))
+    let e : c.args.run.from - c.args.run.from ≡ 0 = omega arith in
+    (omega arith, omega arith, refl, rw e (wrote_none c.args.buf.now c.args.at (omega arith)))
 
 pub offset_bounds-hits-i : goal.offset_bounds-hits-i
 offset_bounds-hits-i c = omega (arith, c.requires.writable.lanes.hits.few)
@@ -27,12 +26,11 @@ bounds-hits-i c = omega (arith, c.requires.writable.lanes.hits.few)
 pub put_shown-o-requires : goal.put_shown-o-requires
 put_shown-o-requires c =
     let l = c.loop-i in
-    let a = c.args in
     let p = c.requires.writable.lanes.hits in
-    let test = in_part a.part c.beat_s_of-beat_s.result in
-    let most : a.at + 10 * length (filter_of test (take (a.run.to - a.run.from) (drop a.run.from a.s.hits))) ≤ length a.buf.now = rw c.beat_s_of-beat_s.ensures c.requires.in_lane.1 in
-    let more = filter_run_count test a.s.hits a.run.from l.i past_hit l.invariant.0 (omega (arith, p.few, p.size)) in
-    let fewer = filter_fewer test (drop a.run.from a.s.hits) (l.i + 1 - a.run.from) (a.run.to - a.run.from) (omega arith) in
+    let test = in_part c.args.part c.beat_s_of-beat_s.result in
+    let most : c.args.at + 10 * length (filter_of test (take (c.args.run.to - c.args.run.from) (drop c.args.run.from c.args.s.hits))) ≤ length c.args.buf.now = rw c.beat_s_of-beat_s.ensures c.requires.hits_in_bounds in
+    let more = filter_run_count test c.args.s.hits c.args.run.from l.i past_hit l.invariant.0 (omega (arith, p.few, p.size)) in
+    let fewer = filter_fewer test (drop c.args.run.from c.args.s.hits) (l.i + 1 - c.args.run.from) (c.args.run.to - c.args.run.from) (omega arith) in
     record { finite_hit = c.requires.writable.numbers.hits l.i (omega arith); on_in_bounds = rw c.in_part-on.ensures (omega (arith, l.invariant.3.next, more, fewer, most)) }
 
 pub overflow_add-i : goal.overflow_add-i
@@ -44,13 +42,12 @@ loop-i-smaller c = omega arith
 pub loop-i-preserved : goal.loop-i-preserved
 loop-i-preserved c =
     let l = c.loop-i in
-    let a = c.args in
     let p = c.requires.writable.lanes.hits in
     let wrote = rw c.in_part-on.ensures at c.put_shown-o.ensures in (
       omega arith,
       omega arith,
       omega (arith, wrote_length c.put_shown-o.ensures),
-      part_wrote (in_part a.part c.beat_s_of-beat_s.result) a.s.hits a.run.from l.i l.invariant.0 (omega (arith, p.few, p.size)) l.invariant.3 wrote,
+      part_wrote (in_part c.args.part c.beat_s_of-beat_s.result) c.args.s.hits c.args.run.from l.i l.invariant.0 (omega (arith, p.few, p.size)) l.invariant.3 wrote,
     )
 
 pub shape_of-buf : goal.shape_of-buf

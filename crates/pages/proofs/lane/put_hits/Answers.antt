@@ -13,9 +13,8 @@ use Rattle.pages.proofs.lane.put_hits.Goals as goal
 pub loop-i-init : goal.loop-i-init
 unfolding joined
 loop-i-init c =
-    let a = c.args in
-    let e : a.run.from - a.run.from ≡ 0 = omega arith in
-    (omega arith, omega arith, refl, λ n h k. rw e (wrote_none a.buf.now a.at (omega arith)))
+    let e : c.args.run.from - c.args.run.from ≡ 0 = omega arith in
+    (omega arith, omega arith, refl, λ n h k. rw e (wrote_none c.args.buf.now c.args.at (omega arith)))
 
 pub offset_bounds-hits-i : goal.offset_bounds-hits-i
 offset_bounds-hits-i c = omega (arith, c.requires.writable.lanes.hits.few)
@@ -28,7 +27,7 @@ put_hit-o-requires c =
     let l = c.loop-i in
     let r = c.args.run in
     let p = c.requires.writable.lanes.hits in
-    let w = l.invariant.3 c.args.s.hit_count c.requires.in_lane.0.1 (omega (arith, p.few, p.size)) in
+    let w = l.invariant.3 c.args.s.hit_count c.requires.in_lane.1 (omega (arith, p.few, p.size)) in
     record { finite_hit = c.requires.writable.numbers.hits l.i (omega arith); at_in_bounds = omega (arith, w.next, times_fits 10 r.from l.i l.invariant.0 r.to (omega arith)) }
 
 pub overflow_add-i : goal.overflow_add-i
@@ -40,11 +39,11 @@ loop-i-smaller c = omega arith
 pub loop-i-preserved : goal.loop-i-preserved
 loop-i-preserved c =
     let l = c.loop-i in
-    let a = c.args in (
+    (
       omega arith,
       omega arith,
       omega (arith, wrote_length c.put_hit-o.ensures),
-      λ n h k. event_wrote hit_bytes past_hit 10 a.s.hits n a.run.from l.i l.invariant.0 (omega arith) k (l.invariant.3 n h k) c.put_hit-o.ensures,
+      λ n h k. event_wrote hit_bytes past_hit 10 c.args.s.hits n c.args.run.from l.i l.invariant.0 (omega arith) k (l.invariant.3 n h k) c.put_hit-o.ensures,
     )
 
 pub shape_of-buf : goal.shape_of-buf
@@ -55,4 +54,4 @@ returns c =
     let l = c.loop-i in
     let p = c.requires.writable.lanes.hits in
     let e : l.i ≡ c.args.run.to = omega arith in
-    rw (← e) (l.invariant.3 c.args.s.hit_count c.requires.in_lane.0.1 (omega (arith, p.few, p.size)))
+    rw (← e) (l.invariant.3 c.args.s.hit_count c.requires.in_lane.1 (omega (arith, p.few, p.size)))

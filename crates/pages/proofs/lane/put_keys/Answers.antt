@@ -15,9 +15,8 @@ use Rattle.pages.proofs.lane.put_keys.Goals as goal
 pub loop-i-init : goal.loop-i-init
 unfolding joined
 loop-i-init c =
-    let a = c.args in
-    let e : a.run.from - a.run.from ≡ 0 = omega arith in
-    (omega arith, omega arith, refl, λ n h k. rw (e, mul-zero (note_width a.edition)) (wrote_none a.buf.now a.at (omega arith)))
+    let e : c.args.run.from - c.args.run.from ≡ 0 = omega arith in
+    (omega arith, omega arith, refl, λ n h k. rw (e, mul-zero (note_width c.args.edition)) (wrote_none c.args.buf.now c.args.at (omega arith)))
 
 pub offset_bounds-keys-i : goal.offset_bounds-keys-i
 offset_bounds-keys-i c = omega (arith, c.requires.writable.lanes.keys.few)
@@ -30,7 +29,7 @@ put_note-o-requires c =
     let l = c.loop-i in
     let r = c.args.run in
     let p = c.requires.writable.lanes.keys in
-    let w = l.invariant.3 c.args.s.keys_count c.requires.in_lane.0.1 (omega (arith, p.few, p.size)) in
+    let w = l.invariant.3 c.args.s.keys_count c.requires.in_lane.1 (omega (arith, p.few, p.size)) in
     record { finite_note = c.requires.writable.numbers.keys l.i (omega arith); edition_in_bounds = omega (arith, w.next, times_fits (note_width c.args.edition) r.from l.i l.invariant.0 r.to (omega arith)) }
 
 pub overflow_add-i : goal.overflow_add-i
@@ -42,11 +41,11 @@ loop-i-smaller c = omega arith
 pub loop-i-preserved : goal.loop-i-preserved
 loop-i-preserved c =
     let l = c.loop-i in
-    let a = c.args in (
+    (
       omega arith,
       omega arith,
       omega (arith, wrote_length c.put_note-o.ensures),
-      λ n h k. event_wrote (note_bytes a.edition) past_note (note_width a.edition) a.s.keys n a.run.from l.i l.invariant.0 (omega arith) k (l.invariant.3 n h k) c.put_note-o.ensures,
+      λ n h k. event_wrote (note_bytes c.args.edition) past_note (note_width c.args.edition) c.args.s.keys n c.args.run.from l.i l.invariant.0 (omega arith) k (l.invariant.3 n h k) c.put_note-o.ensures,
     )
 
 pub shape_of-buf : goal.shape_of-buf
@@ -57,4 +56,4 @@ returns c =
     let l = c.loop-i in
     let p = c.requires.writable.lanes.keys in
     let e : l.i ≡ c.args.run.to = omega arith in
-    rw (← e) (l.invariant.3 c.args.s.keys_count c.requires.in_lane.0.1 (omega (arith, p.few, p.size)))
+    rw (← e) (l.invariant.3 c.args.s.keys_count c.requires.in_lane.1 (omega (arith, p.few, p.size)))

@@ -14,18 +14,17 @@ use Rattle.pages.proofs.page.bar_page.Goals as goal
 pub page_of-requires : goal.page_of-requires
 page_of-requires c =
     let e = c.compose-song.ensures in
-    let p = done_promise c.args.style c.args.seed (ap (λ (x : Composed). x.outcome) (sym e) ∙ c.enum_told-1.given.1) in
+    let p = done_promise c.args.style c.args.seed (ap (λ (x : Composed). x.outcome) (sym e) ∙ c.in-Done.is) in
     rw e (paged (compose_of c.args.style c.args.seed).score (events_promise p), p.range.chord_size_lem)
 
 pub returns-in-Refused : goal.returns-in-Refused
 unfolding page_asked
 returns-in-Refused c =
-    let a = c.args in
-    let e = ap (λ (x : Composed). x.outcome) (sym c.compose-song.ensures) ∙ c.outcome-1.given.1 in
-    let page = page_of (compose_of a.style a.seed).score (arrange_of a.seed) a.bar in
-    record { value = sym (ap (λ (o : Outcome). written_of (length a.buf.now) (asked_by o page)) e); buf_after = sym (ap (λ (o : Outcome). buffer_of a.buf.now (asked_by o page)) e) }
+    let e = ap (λ (x : Composed). x.outcome) (sym c.compose-song.ensures) ∙ c.in-Refused.is in
+    let page = page_of (compose_of c.args.style c.args.seed).score (arrange_of c.args.seed) c.args.bar in
+    record { value = sym (ap (λ (o : Outcome). written_of (length c.args.buf.now) (asked_by o page)) e); buf_after = sym (ap (λ (o : Outcome). buffer_of c.args.buf.now (asked_by o page)) e) }
 
 pub returns-in-Done : goal.returns-in-Done
 unfolding page_asked
 returns-in-Done c =
-    rw (← c.compose-song.ensures, c.enum_told-1.given.1, ← c.arrange-form.ensures) c.page_of.ensures
+    rw (← c.compose-song.ensures, c.in-Done.is, ← c.arrange-form.ensures) c.page_of.ensures

@@ -16,28 +16,24 @@ use Rattle.pages.proofs.page.page_into.Goals as goal
 pub page_size-size-requires : goal.page_size-size-requires
 page_size-size-requires c =
     let bar = c.loop_bar-looped.result in
-    let a = c.args in
-    let held = run_held a.s c.requires.paged.lanes in
-    rw c.runs_in-runs.ensures (((held Lane.Lead a.p.keys bar, held Lane.Keys a.p.keys bar), held Lane.Bass a.p.bass bar), c.heard_runs-hits.ensures.count_bound)
+    let held = run_held c.args.s c.requires.paged.lanes in
+    rw c.runs_in-runs.ensures (((held Lane.Lead c.args.p.keys bar, held Lane.Keys c.args.p.keys bar), held Lane.Bass c.args.p.bass bar), c.heard_runs-hits.ensures.count_bound)
 
 pub returns-then-buf-size : goal.returns-then-buf-size
 returns-then-buf-size c =
-    let a = c.args in
-    let size = size_is a.s c.requires.paged.lanes a.p a.f a.bar c.loop_bar-looped.ensures.value c.runs_in-runs.ensures c.heard_runs-hits.ensures.value c.page_size-size.ensures in
-    let hits = page_hits a.s a.f a.bar in
-    refused a.buf.now (page_bytes a.s a.p (loop_bar_of a.f a.bar) hits)
-    (omega (arith, ltb-true, size, page_length a.s c.requires.chorded.0 a.p (loop_bar_of a.f a.bar) hits (omega arith)))
+    let size = size_is c.args.s c.requires.paged.lanes c.args.p c.args.f c.args.bar c.loop_bar-looped.ensures.value c.runs_in-runs.ensures c.heard_runs-hits.ensures.value c.page_size-size.ensures in
+    let hits = page_hits c.args.s c.args.f c.args.bar in
+    refused c.args.buf.now (page_bytes c.args.s c.args.p (loop_bar_of c.args.f c.args.bar) hits)
+    (omega (arith, ltb-true, size, page_length c.args.s c.requires.chorded c.args.p (loop_bar_of c.args.f c.args.bar) hits (omega arith)))
 
 pub put_page-n-requires : goal.put_page-n-requires
 put_page-n-requires c =
-    let a = c.args in
-    let size = size_is a.s c.requires.paged.lanes a.p a.f a.bar c.loop_bar-looped.ensures.value c.runs_in-runs.ensures c.heard_runs-hits.ensures.value c.page_size-size.ensures in
-    let within : HitsWithin a.s c.heard_runs-hits.result = rw c.heard_runs-hits.ensures.value (hits_within_lem a.s c.requires.paged.lanes a.f a.bar) in
-    (c.requires.paged, (c.requires.chorded.0, (c.loop_bar-looped.ensures.upper_bound, (c.runs_in-runs.ensures, (within, (c.heard_runs-hits.ensures.count_bound, rw (c.loop_bar-looped.ensures.value, c.heard_runs-hits.ensures.value) (omega (arith, ltb-false, size))))))))
+    let size = size_is c.args.s c.requires.paged.lanes c.args.p c.args.f c.args.bar c.loop_bar-looped.ensures.value c.runs_in-runs.ensures c.heard_runs-hits.ensures.value c.page_size-size.ensures in
+    let within : HitsWithin c.args.s c.heard_runs-hits.result = rw c.heard_runs-hits.ensures.value (hits_within_lem c.args.s c.requires.paged.lanes c.args.f c.args.bar) in
+    (c.requires.paged, (c.requires.chorded, (c.loop_bar-looped.ensures.upper_bound, (c.runs_in-runs.ensures, (within, (c.heard_runs-hits.ensures.count_bound, rw (c.loop_bar-looped.ensures.value, c.heard_runs-hits.ensures.value) (omega (arith, ltb-false, size))))))))
 
 pub returns : goal.returns
 returns c =
-    let a = c.args in
-    let bytes : page_bytes a.s a.p c.loop_bar-looped.result (run_hits a.s c.heard_runs-hits.result) ≡ page_bytes a.s a.p (loop_bar_of a.f a.bar) (page_hits a.s a.f a.bar) =
-    rw (c.loop_bar-looped.ensures.value, c.heard_runs-hits.ensures.value, runs_hits a.s c.requires.paged.lanes a.f a.bar) in
+    let bytes : page_bytes c.args.s c.args.p c.loop_bar-looped.result (run_hits c.args.s c.heard_runs-hits.result) ≡ page_bytes c.args.s c.args.p (loop_bar_of c.args.f c.args.bar) (page_hits c.args.s c.args.f c.args.bar) =
+    rw (c.loop_bar-looped.ensures.value, c.heard_runs-hits.ensures.value, runs_hits c.args.s c.requires.paged.lanes c.args.f c.args.bar) in
     served (wrote_as refl bytes c.put_page-n.ensures)

@@ -1,6 +1,6 @@
 -- A silent pad's head says 0, and else the head says 4 and the bar's four notes follow. Assumes nothing.
 use mathlib.Core.Path.{sym, ap, ◌∙◌}
-use mathlib.Core.List.{List}
+use mathlib.Core.List.{List, []}
 use Prim.Native.Nat.{ℕ, ◌+◌}
 use native.Mathlib.Omega.{arith}
 use lib.ListN.{length, get_or}
@@ -16,18 +16,18 @@ returns-then-not-on c = rw (not-true c.args.on c.if-not-on.true) c.put_head.ensu
 
 pub slice_bounds-put_bytes-end : goal.slice_bounds-put_bytes-end
 slice_bounds-put_bytes-end c =
-    sym (rw c.bar_chords-chords.ensures (chord_notes c.args.s c.requires.chorded c.args.bar c.requires.bar_bound.0))
+    sym (rw c.bar_chords-chords.ensures (chord_notes c.args.s c.requires.chorded c.args.bar c.requires.bar_bound))
 
 pub put_bytes-requires : goal.put_bytes-requires
 put_bytes-requires c =
     let on = not-false c.args.on c.if-not-on.false in
-    let four = chord_notes c.args.s c.requires.chorded c.args.bar c.requires.bar_bound.0 in
-    rw c.bar_chords-chords.ensures (omega (arith, rw on at c.requires.bar_bound.1))
+    let four = chord_notes c.args.s c.requires.chorded c.args.bar c.requires.bar_bound in
+    rw c.bar_chords-chords.ensures (omega (arith, rw on at c.requires.on_in_bounds))
 
 pub returns : goal.returns
 unfolding field
 returns c =
-    let four = chord_notes c.args.s c.requires.chorded c.args.bar c.requires.bar_bound.0 in
+    let four = chord_notes c.args.s c.requires.chorded c.args.bar c.requires.bar_bound in
     let is = ap (λ (l : List (List ℕ)). get_or l c.args.bar []) c.bar_chords-chords.ensures in
     rw (not-false c.args.on c.if-not-on.false)
     (wrote_as (ap (λ (n : ℕ). 3 + n) (ap length is ∙ four)) (rw (is, four)) (wrote_then c.put_head-a.ensures c.put_bytes.ensures))

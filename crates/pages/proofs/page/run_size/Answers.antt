@@ -8,11 +8,9 @@ use Rattle.pages.proofs.page.run_size.Goals as goal
 
 pub overflow_mul-result : goal.overflow_mul-result
 overflow_mul-result c =
-    let a = c.args in
-    let small = width_small Edition.Two a.lane (a.run.to - a.run.from) (omega arith) in
+    let small = width_small Edition.Two c.args.lane (c.args.run.to - c.args.run.from) (omega arith) in
     rw c.width-width.ensures (omega arith)
 
 pub returns : goal.returns
 returns c =
-    let a = c.args in
-    rw c.width-width.ensures (refl, width_small Edition.Two a.lane (a.run.to - a.run.from) (omega arith))
+    rw c.width-width.ensures (refl, width_small Edition.Two c.args.lane (c.args.run.to - c.args.run.from) (omega arith))

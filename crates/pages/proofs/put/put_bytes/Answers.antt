@@ -1,6 +1,6 @@
 -- After i turns the first i bytes are written; a turn writes one more, and at the end i is their number. Assumes nothing.
 use mathlib.Core.Path.{◌≡◌, refl, ◌∙◌, ap}
-use mathlib.Core.List.{◌∷◌, ◌++◌}
+use mathlib.Core.List.{◌∷◌, [], ◌++◌}
 use Prim.Native.Nat.{ℕ, ◌+◌, ◌-◌}
 use native.Mathlib.Numerals.{add-one}
 use native.Mathlib.Omega.{arith}
@@ -11,9 +11,8 @@ use Rattle.pages.proofs.put.put_bytes.Goals as goal
 
 pub loop-i-init : goal.loop-i-init
 loop-i-init c =
-    let a = c.args in
-    let e : a.at + 0 ≡ a.at = omega arith in
-    (omega arith, refl, rw e (wrote_none a.buf.now a.at (omega arith)))
+    let e : c.args.at + 0 ≡ c.args.at = omega arith in
+    (omega arith, refl, rw e (wrote_none c.args.buf.now c.args.at (omega arith)))
 
 pub bounds-bytes-i : goal.bounds-bytes-i
 bounds-bytes-i c = omega arith
@@ -33,10 +32,9 @@ loop-i-smaller c = omega arith
 pub loop-i-preserved : goal.loop-i-preserved
 loop-i-preserved c =
     let l = c.loop-i in
-    let a = c.args in
-    let w = wrote_then l.invariant.2 (wrote_set l.buf (a.at + l.i) (get_or a.bytes.now l.i 0) (omega arith)) in
-    let e : take (l.i + 1) a.bytes.now ≡ take l.i a.bytes.now ++ (get_or a.bytes.now l.i 0 ∷ []) = rw add-one (take-suc a.bytes.now l.i 0 (omega arith)) in
-    let k : a.at + (l.i + 1) ≡ a.at + l.i + 1 = omega arith in
+    let w = wrote_then l.invariant.2 (wrote_set l.buf (c.args.at + l.i) (get_or c.args.bytes.now l.i 0) (omega arith)) in
+    let e : take (l.i + 1) c.args.bytes.now ≡ take l.i c.args.bytes.now ++ (get_or c.args.bytes.now l.i 0 ∷ []) = rw add-one (take-suc c.args.bytes.now l.i 0 (omega arith)) in
+    let k : c.args.at + (l.i + 1) ≡ c.args.at + l.i + 1 = omega arith in
     (omega arith, omega (arith, wrote_length w), rw (e, k) w)
 
 pub overflow_add-result : goal.overflow_add-result

@@ -2,4 +2,4 @@
 use Rattle.pages.proofs.reply.reply.Goals as goal
 
 pub returns-in-Refused : goal.returns-in-Refused
-returns-in-Refused c = rw c.w-in-Refused-1.given.1 c.put_refusal.ensures
+returns-in-Refused c = rw c.in-Refused.is c.put_refusal.ensures

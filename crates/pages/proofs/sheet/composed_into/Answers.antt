@@ -6,15 +6,14 @@ use Rattle.pages.proofs.sheet.composed_into.Goals as goal
 
 pub sheet_into-requires : goal.sheet_into-requires
 sheet_into-requires c =
-    let a = c.args in
-    let promise = c.requires c.enum_told-1.given.1 in
-    rw c.arrange-form.ensures (writable a.song.score (events_promise promise), (promise.range.chord_size_lem, (promise.scale_most, (arranged_promise a.seed).most)))
+    let promise = c.requires c.in-Done.is in
+    rw c.arrange-form.ensures (writable c.args.song.score (events_promise promise), (promise.range.chord_size_lem, (promise.scale_most, (arranged_promise c.args.seed).most)))
 
 pub returns-in-Refused : goal.returns-in-Refused
 returns-in-Refused c =
-    let e = c.outcome-1.given.1 in
+    let e = c.in-Refused.is in
     record { value = rw e; buf_after = rw e }
 
 pub returns-in-Done : goal.returns-in-Done
 returns-in-Done c =
-    rw (c.enum_told-1.given.1, ← c.arrange-form.ensures) c.sheet_into.ensures
+    rw (c.in-Done.is, ← c.arrange-form.ensures) c.sheet_into.ensures

@@ -7,11 +7,9 @@ use Rattle.pages.proofs.sheet.lane_size.Goals as goal
 
 pub overflow_mul-result : goal.overflow_mul-result
 overflow_mul-result c =
-    let a = c.args in
-    let small = run_small a.s c.requires a.edition a.lane (count_in a.s a.lane) (omega arith) in
+    let small = run_small c.args.s c.requires c.args.edition c.args.lane (count_in c.args.s c.args.lane) (omega arith) in
     rw (c.count-n.ensures, c.width-width.ensures) (omega (arith, small))
 
 pub returns : goal.returns
 returns c =
-    let a = c.args in
-    rw (c.count-n.ensures, c.width-width.ensures) (refl, run_small a.s c.requires a.edition a.lane (count_in a.s a.lane) (omega arith))
+    rw (c.count-n.ensures, c.width-width.ensures) (refl, run_small c.args.s c.requires c.args.edition c.args.lane (count_in c.args.s c.args.lane) (omega arith))

@@ -10,9 +10,8 @@ use Rattle.pages.proofs.sheet.put_bars.Goals as goal
 
 pub loop-b-init : goal.loop-b-init
 loop-b-init c =
-    let a = c.args in
-    let most : length a.f.plays ≡ 64 = simp length-map at c.well-formed.1.1.0.1.1.1.1.1.1.0.1.0.1 in
-    (omega arith, most, refl, wrote_none a.buf.now a.at (omega arith))
+    let most : length c.args.f.plays ≡ 64 = simp length-map at c.well-formed.1.1.0.1.1.1.1.1.1.0.1.0.1 in
+    (omega arith, most, refl, wrote_none c.args.buf.now c.args.at (omega arith))
 
 pub offset_bounds-plays-b : goal.offset_bounds-plays-b
 offset_bounds-plays-b c = omega arith
@@ -29,9 +28,8 @@ loop-b-smaller c = omega arith
 pub loop-b-preserved : goal.loop-b-preserved
 loop-b-preserved c =
     let l = c.loop-b in
-    let a = c.args in
     let w = wrote_then l.invariant.3 c.put_u8-o.ensures in
-    let on = map_take_on bits_of a.f.plays l.b silent (omega arith) in
+    let on = map_take_on bits_of c.args.f.plays l.b silent (omega arith) in
     (omega arith, l.invariant.1, omega (arith, wrote_length w), wrote_as (omega arith) (rw (on, c.bits-bits.ensures)) w)
 
 pub shape_of-buf : goal.shape_of-buf

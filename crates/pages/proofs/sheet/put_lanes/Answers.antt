@@ -23,32 +23,28 @@ put_run-a-requires c =
 
 pub put_run-b-requires : goal.put_run-b-requires
 put_run-b-requires c =
-    let a = c.args in
-    let w1 = lane_wrote a.s c.requires.writable.lanes a.edition Lane.Lead c.put_run-a.ensures in
-    asked Lane.Keys c.put_run-a.result (note_width a.edition) c.requires.writable (omega (arith, w1.next, wrote_length w1))
+    let w1 = lane_wrote c.args.s c.requires.writable.lanes c.args.edition Lane.Lead c.put_run-a.ensures in
+    asked Lane.Keys c.put_run-a.result (note_width c.args.edition) c.requires.writable (omega (arith, w1.next, wrote_length w1))
 
 pub put_run-c-requires : goal.put_run-c-requires
 put_run-c-requires c =
-    let a = c.args in
-    let w1 = lane_wrote a.s c.requires.writable.lanes a.edition Lane.Lead c.put_run-a.ensures in
-    let w2 = lane_wrote a.s c.requires.writable.lanes a.edition Lane.Keys c.put_run-b.ensures in
+    let w1 = lane_wrote c.args.s c.requires.writable.lanes c.args.edition Lane.Lead c.put_run-a.ensures in
+    let w2 = lane_wrote c.args.s c.requires.writable.lanes c.args.edition Lane.Keys c.put_run-b.ensures in
     asked Lane.Hits c.put_run-b.result 10 c.requires.writable (omega (arith, w1.next, wrote_length w1, w2.next, wrote_length w2))
 
 pub put_run-requires : goal.put_run-requires
 put_run-requires c =
-    let a = c.args in
-    let w1 = lane_wrote a.s c.requires.writable.lanes a.edition Lane.Lead c.put_run-a.ensures in
-    let w2 = lane_wrote a.s c.requires.writable.lanes a.edition Lane.Keys c.put_run-b.ensures in
-    let w3 = lane_wrote a.s c.requires.writable.lanes a.edition Lane.Hits c.put_run-c.ensures in
-    asked Lane.Bass c.put_run-c.result (note_width a.edition) c.requires.writable (omega (arith, w1.next, wrote_length w1, w2.next, wrote_length w2, w3.next, wrote_length w3))
+    let w1 = lane_wrote c.args.s c.requires.writable.lanes c.args.edition Lane.Lead c.put_run-a.ensures in
+    let w2 = lane_wrote c.args.s c.requires.writable.lanes c.args.edition Lane.Keys c.put_run-b.ensures in
+    let w3 = lane_wrote c.args.s c.requires.writable.lanes c.args.edition Lane.Hits c.put_run-c.ensures in
+    asked Lane.Bass c.put_run-c.result (note_width c.args.edition) c.requires.writable (omega (arith, w1.next, wrote_length w1, w2.next, wrote_length w2, w3.next, wrote_length w3))
 
 pub returns : goal.returns
 unfolding lanes_bytes
 returns c =
-    let a = c.args in
     let p = c.requires.writable.lanes in
     wrote_as
     (omega arith)
     refl
-    (wrote_then (lane_wrote a.s p a.edition Lane.Lead c.put_run-a.ensures)
-    (wrote_then (lane_wrote a.s p a.edition Lane.Keys c.put_run-b.ensures) (wrote_then (lane_wrote a.s p a.edition Lane.Hits c.put_run-c.ensures) (lane_wrote a.s p a.edition Lane.Bass c.put_run.ensures))))
+    (wrote_then (lane_wrote c.args.s p c.args.edition Lane.Lead c.put_run-a.ensures)
+    (wrote_then (lane_wrote c.args.s p c.args.edition Lane.Keys c.put_run-b.ensures) (wrote_then (lane_wrote c.args.s p c.args.edition Lane.Hits c.put_run-c.ensures) (lane_wrote c.args.s p c.args.edition Lane.Bass c.put_run.ensures))))

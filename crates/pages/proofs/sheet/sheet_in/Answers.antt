@@ -5,8 +5,7 @@ use Rattle.pages.proofs.sheet.sheet_in.Goals as goal
 
 pub composed_into-requires : goal.composed_into-requires
 composed_into-requires c =
-    let a = c.args in
-    rw c.compose-song.ensures (done_promise a.style a.seed)
+    rw c.compose-song.ensures (done_promise c.args.style c.args.seed)
 
 pub returns : goal.returns
 unfolding sheet_in

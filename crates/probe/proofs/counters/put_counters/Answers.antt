@@ -14,8 +14,7 @@ use Rattle.probe.proofs.counters.put_counters.Goals as goal
 
 pub returns-then-out-lt7 : goal.returns-then-out-lt7
 returns-then-out-lt7 c =
-    let a = c.args in
-    rw (lt-ltb (length a.out.now) 7 c.if-out-lt7.true)
+    rw (lt-ltb (length c.args.out.now) 7 c.if-out-lt7.true)
     (to_z-of_z w64 c.minus_number.result (record { sfits = c.minus_number.type-inv }) ∙ c.minus_number.ensures, refl)
 
 pub loop-i-init : goal.loop-i-init
@@ -27,13 +26,11 @@ pub loop-i-preserved : goal.loop-i-preserved
 loop-i-preserved c =
     let l = c.loop-i in
     let w = c.counts-words.result in
-    let a = c.args in
-    (omega arith, search rules, rw l.invariant.2 (fill_on (λ (k : ℕ). get_or w k 0) a.out.now l.i (omega arith)))
+    (omega arith, search rules, rw l.invariant.2 (fill_on (λ (k : ℕ). get_or w k 0) c.args.out.now l.i (omega arith)))
 
 pub returns : goal.returns
 returns c =
     let l = c.loop-i in
     let w = c.counts-words in
-    let a = c.args in
     let e : l.i ≡ 7 = omega arith in
-    rw (le-ltb (length a.out.now) 7 c.if-out-lt7.false) (refl, (rw e at l.invariant.2) ∙ ap (λ (xs : List ℕ). xs ++ drop 7 a.out.now) (seven a.c w.result w.ensures))
+    rw (le-ltb (length c.args.out.now) 7 c.if-out-lt7.false) (refl, (rw e at l.invariant.2) ∙ ap (λ (xs : List ℕ). xs ++ drop 7 c.args.out.now) (seven c.args.c w.result w.ensures))

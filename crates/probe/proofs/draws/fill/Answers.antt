@@ -14,29 +14,26 @@ use Rattle.probe.proofs.draws.fill.Goals as goal
 
 pub loop-i-init : goal.loop-i-init
 loop-i-init c =
-    let a = c.args in
-    let s = stream_at a.seed a.counter in
-    (omega arith, refl, sym (after_none s (omega arith)), sym (fill_none (draw_of a.kind s) a.out.now))
+    let s = stream_at c.args.seed c.args.counter in
+    (omega arith, refl, sym (after_none s (omega arith)), sym (fill_none (draw_of c.args.kind s) c.args.out.now))
 
 pub loop-i-preserved : goal.loop-i-preserved
 loop-i-preserved c =
     let l = c.loop-i in
-    let a = c.args in
-    let s = stream_at a.seed a.counter in
-    let e = c.drawn-d.ensures ∙ ap (drawn_of a.kind) l.invariant.2 in (
+    let s = stream_at c.args.seed c.args.counter in
+    let e = c.drawn-d.ensures ∙ ap (drawn_of c.args.kind) l.invariant.2 in (
       search rules,
       search rules,
-      ap (λ (d : WordDraw). d.stream) e ∙ drawn_on_lem a.kind s l.i,
-      rw (l.invariant.3, e) (fill_on (draw_of a.kind s) a.out.now l.i (omega arith)),
+      ap (λ (d : WordDraw). d.stream) e ∙ drawn_on_lem c.args.kind s l.i,
+      rw (l.invariant.3, e) (fill_on (draw_of c.args.kind s) c.args.out.now l.i (omega arith)),
     )
 
 pub returns : goal.returns
 returns c =
     let l = c.loop-i in
-    let a = c.args in
-    let s = stream_at a.seed a.counter in
-    let e : l.i ≡ length a.out.now = omega arith in
+    let s = stream_at c.args.seed c.args.counter in
+    let e : l.i ≡ length c.args.out.now = omega arith in
     record {
-      draws = (rw e at l.invariant.3) ∙ fill_all (draw_of a.kind s) a.out.now;
+      draws = (rw e at l.invariant.3) ∙ fill_all (draw_of c.args.kind s) c.args.out.now;
       counter = ap (λ (t : NoiseStream). t.counter) (rw e at l.invariant.2);
     }

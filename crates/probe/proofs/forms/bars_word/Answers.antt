@@ -15,14 +15,12 @@ loop-i-init c = (omega arith, refl)
 
 pub overflow_mul-w : goal.overflow_mul-w
 overflow_mul-w c =
-    let a = c.args in
-    omega (arith, bars_word_room a.t1 a.from c.loop-i.i (omega arith))
+    omega (arith, bars_word_room c.args.plays c.args.from c.loop-i.i (omega arith))
 
 pub overflow_add-w : goal.overflow_add-w
 overflow_add-w c =
-    let a = c.args in
-    let small : c.bits.result < 16 = rw c.bits.ensures (bits_lt (get_or a.t1 (a.from + c.loop-i.i) silent)) in
-    omega (arith, bars_word_room a.t1 a.from c.loop-i.i (omega arith))
+    let small : c.bits.result < 16 = rw c.bits.ensures (bits_lt (get_or c.args.plays (c.args.from + c.loop-i.i) silent)) in
+    omega (arith, bars_word_room c.args.plays c.args.from c.loop-i.i (omega arith))
 
 pub loop-i-preserved : goal.loop-i-preserved
 unfolding bars_word_of
@@ -33,6 +31,5 @@ loop-i-preserved c =
 pub returns : goal.returns
 returns c =
     let l = c.loop-i in
-    let a = c.args in
     let e : l.i ≡ 16 = omega arith in
-    l.invariant.1 ∙ ap (bars_word_of a.t1 a.from) e
+    l.invariant.1 ∙ ap (bars_word_of c.args.plays c.args.from) e

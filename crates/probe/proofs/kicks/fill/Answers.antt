@@ -10,18 +10,15 @@ use Rattle.probe.proofs.kicks.fill.Goals as goal
 
 pub loop-i-init : goal.loop-i-init
 loop-i-init c =
-    let s = c.args in
-    (omega arith, refl, sym (fill_none (kicks_word_of s.a) s.out.now))
+    (omega arith, refl, sym (fill_none (kicks_word_of c.args.a) c.args.out.now))
 
 pub loop-i-preserved : goal.loop-i-preserved
 loop-i-preserved c =
     let l = c.loop-i in
-    let s = c.args in
-    (search rules, search rules, rw (l.invariant.2, c.kicks_word.ensures) (fill_on (kicks_word_of s.a) s.out.now l.i (omega arith)))
+    (search rules, search rules, rw (l.invariant.2, c.kicks_word.ensures) (fill_on (kicks_word_of c.args.a) c.args.out.now l.i (omega arith)))
 
 pub returns : goal.returns
 returns c =
     let l = c.loop-i in
-    let s = c.args in
-    let e : l.i ≡ length s.out.now = omega arith in
-    (rw e at l.invariant.2) ∙ fill_all (kicks_word_of s.a) s.out.now
+    let e : l.i ≡ length c.args.out.now = omega arith in
+    (rw e at l.invariant.2) ∙ fill_all (kicks_word_of c.args.a) c.args.out.now

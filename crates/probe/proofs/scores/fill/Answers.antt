@@ -10,18 +10,15 @@ use Rattle.probe.proofs.scores.fill.Goals as goal
 
 pub loop-i-init : goal.loop-i-init
 loop-i-init c =
-    let a = c.args in
-    (omega arith, refl, sym (fill_none (word_of a.song) a.out.now))
+    (omega arith, refl, sym (fill_none (word_of c.args.song) c.args.out.now))
 
 pub loop-i-preserved : goal.loop-i-preserved
 loop-i-preserved c =
     let l = c.loop-i in
-    let a = c.args in
-    (search rules, search rules, rw (l.invariant.2, c.word.ensures) (fill_on (word_of a.song) a.out.now l.i (omega arith)))
+    (search rules, search rules, rw (l.invariant.2, c.word.ensures) (fill_on (word_of c.args.song) c.args.out.now l.i (omega arith)))
 
 pub returns : goal.returns
 returns c =
     let l = c.loop-i in
-    let a = c.args in
-    let e : l.i ≡ length a.out.now = omega arith in
-    (rw e at l.invariant.2) ∙ fill_all (word_of a.song) a.out.now
+    let e : l.i ≡ length c.args.out.now = omega arith in
+    (rw e at l.invariant.2) ∙ fill_all (word_of c.args.song) c.args.out.now

@@ -22,6 +22,5 @@ loop-b-preserved c =
 pub returns : goal.returns
 returns c =
     let l = c.loop-b in
-    let a = c.args in
     let e : l.b ≡ 8 = omega arith in
-    record { value = l.invariant.2 ∙ ap (sum_to (λ (k : ℕ). chord_sum (get_or a.t1 k past_chord))) e; upper_bound = omega arith }
+    record { value = l.invariant.2 ∙ ap (sum_to (λ (k : ℕ). chord_sum (get_or c.args.bars k past_chord))) e; upper_bound = omega arith }

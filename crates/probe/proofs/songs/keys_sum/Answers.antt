@@ -23,6 +23,5 @@ loop-i-preserved c =
 pub returns : goal.returns
 returns c =
     let l = c.loop-i in
-    let a = c.args in
-    let e : l.i ≡ a.n = omega arith in
-    record { value = l.invariant.2 ∙ ap (notes_sum a.t1) e; upper_bound = omega arith }
+    let e : l.i ≡ c.args.n = omega arith in
+    record { value = l.invariant.2 ∙ ap (notes_sum c.args.notes) e; upper_bound = omega arith }

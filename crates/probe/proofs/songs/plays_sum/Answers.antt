@@ -21,6 +21,6 @@ loop-b-preserved c =
 pub returns : goal.returns
 returns c =
     let l = c.loop-b in
-    let f = c.args.t1 in
+    let f = c.args.f in
     let e : l.b ≡ f.bars = omega arith in
     record { value = l.invariant.3 ∙ ap (sum_to (λ (k : ℕ). bits_of (get_or f.plays k silent))) e; upper_bound = omega arith }

@@ -9,24 +9,21 @@ use Rattle.probe.proofs.songs.probe_song.Goals as goal
 
 pub score_sum-requires : goal.score_sum-requires
 score_sum-requires c =
-    let a = c.args in
-    let done : (compose_of a.style a.seed).outcome ≡ Outcome.Done = rw c.compose-song.ensures at c.enum_told-in-Done-1.given.1 in
-    rw c.compose-song.ensures (events_promise (done_promise a.style a.seed done))
+    let done : (compose_of c.args.style c.args.seed).outcome ≡ Outcome.Done = rw c.compose-song.ensures at c.in-Done.is in
+    rw c.compose-song.ensures (events_promise (done_promise c.args.style c.args.seed done))
 
 pub form_sum-requires : goal.form_sum-requires
 form_sum-requires c =
-    let a = c.args in
-    rw c.arrange-form.ensures (arranged_promise a.seed).most
+    rw c.arrange-form.ensures (arranged_promise c.args.seed).most
 
 pub returns-in-Refused : goal.returns-in-Refused
 unfolding song_sum
 returns-in-Refused c =
-    let e = rw c.compose-song.ensures at c.enum_told-1.given.1 in
+    let e = rw c.compose-song.ensures at c.in-Refused.is in
     rw e
 
 pub returns-in-Done : goal.returns-in-Done
 unfolding song_sum
 returns-in-Done c =
-    let a = c.args in
-    let done : (compose_of a.style a.seed).outcome ≡ Outcome.Done = rw c.compose-song.ensures at c.enum_told-in-Done-1.given.1 in
+    let done : (compose_of c.args.style c.args.seed).outcome ≡ Outcome.Done = rw c.compose-song.ensures at c.in-Done.is in
     rw (done, c.form_sum.ensures.value, c.score_sum.ensures.value, c.arrange-form.ensures, c.compose-song.ensures)

@@ -10,18 +10,15 @@ use Rattle.probe.proofs.stages.probe_stage_seed.Goals as goal
 
 pub returns-in_default : goal.returns-in_default
 returns-in_default c =
-    let a = c.args in
-    let e = sym c.stage_by-known.ensures ∙ c.enum_told-1.given.1 in
-    record { value = sym (ap (λ (w : StageAnswer). answer_by w a.out.now) e); out_after = sym (ap (λ (w : StageAnswer). buffer_by w a.seed a.out.now) e) }
+    let e = sym c.stage_by-known.ensures ∙ c.in_default.is in
+    record { value = sym (ap (λ (w : StageAnswer). answer_by w c.args.out.now) e); out_after = sym (ap (λ (w : StageAnswer). buffer_by w c.args.seed c.args.out.now) e) }
 
 pub returns-then-out-eq0 : goal.returns-then-out-eq0
 returns-then-out-eq0 c =
-    let a = c.args in
-    let e = sym c.stage_by-known.ensures ∙ c.known-1.given.1 in
-    record { value = rw (e, eq-eqb (length a.out.now) 0 c.if-out-eq0.true); out_after = rw e (sym (set_out a.out.now 0 _ (omega arith))) }
+    let e = sym c.stage_by-known.ensures ∙ c.in-Known.is in
+    record { value = rw (e, eq-eqb (length c.args.out.now) 0 c.if-out-eq0.true); out_after = rw e (sym (set_out c.args.out.now 0 _ (omega arith))) }
 
 pub returns : goal.returns
 returns c =
-    let a = c.args in
-    let e = sym c.stage_by-known.ensures ∙ c.known-1.given.1 in
-    record { value = rw (e, ne_eqb (length a.out.now) 0 c.if-out-eq0.false); out_after = rw (e, c.stream-s.ensures) }
+    let e = sym c.stage_by-known.ensures ∙ c.in-Known.is in
+    record { value = rw (e, ne_eqb (length c.args.out.now) 0 c.if-out-eq0.false); out_after = rw (e, c.stream-s.ensures) }

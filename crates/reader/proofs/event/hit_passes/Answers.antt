@@ -15,8 +15,7 @@ use Rattle.reader.proofs.event.hit_passes.Goals as goal
 use Rattle.reader.proofs.event.hit_passes.Goals.{Joined-bar-lt8}
 
 bar_and_time : (d : Joined-bar-lt8)
-    → let a = d.args in
-    d.if-bar-lt8.if2 ≡ (ltb d.byte_in-bar.result 8 && finite (f32_at a.bytes.now (a.at + 2)))
+    → d.if-bar-lt8.if2 ≡ (ltb d.byte_in-bar.result 8 && finite (f32_at d.args.bytes.now (d.args.at + 2)))
 bar_and_time d =
     let b = d.byte_in-bar.result in
     ⊎_elim
@@ -25,12 +24,10 @@ bar_and_time d =
     d.if-bar-lt8.branch
 
 all_three : (d : Joined-bar-lt8)
-    → let a = d.args in
-    (d.if-bar-lt8.if2 && finite (f32_at a.bytes.now (a.at + 6))) ≡ hit_within (hit_at a.bytes.now a.at)
+    → (d.if-bar-lt8.if2 && finite (f32_at d.args.bytes.now (d.args.at + 6))) ≡ hit_within (hit_at d.args.bytes.now d.args.at)
 unfolding hit_at
 all_three d =
-    let a = d.args in
-    rw (bar_and_time d, d.byte_in-bar.ensures) (hit_tests (hit_at a.bytes.now a.at) refl)
+    rw (bar_and_time d, d.byte_in-bar.ensures) (hit_tests (hit_at d.args.bytes.now d.args.at) refl)
 
 pub returns-then-finite_at : goal.returns-then-finite_at
 returns-then-finite_at c = and_then _ c.if-finite_at.true c.finite_at-then-finite_at.ensures ∙ all_three (goal.at.returns-then-finite_at c).Joined-bar-lt8

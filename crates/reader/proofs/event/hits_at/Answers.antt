@@ -15,11 +15,10 @@ loop-i-init c = (omega arith, sym (pad_start (λ k. hit_at c.args.bytes.now (c.a
 
 pub hit_at-requires : goal.hit_at-requires
 hit_at-requires c =
-    let a = c.args in
-    record { at_in_bounds = omega arith; at_value = all_to_at (λ i. hit_within (hit_at a.bytes.now (a.at + 10 * i))) a.n c.requires.n_value c.loop-i.i c.loop-i-test.true }
+    record { at_in_bounds = omega arith; at_value = all_to_at (λ i. hit_within (hit_at c.args.bytes.now (c.args.at + 10 * i))) c.args.n c.requires.n_value c.loop-i.i c.loop-i-test.true }
 
 pub loop-i-preserved : goal.loop-i-preserved
-loop-i-preserved c = let a = c.args in let l = c.loop-i in (omega arith, rw (c.hit_at.ensures, l.invariant.1) (pad_on (λ k. hit_at a.bytes.now (a.at + 10 * k)) no_hit 98 l.i (omega arith)))
+loop-i-preserved c = let l = c.loop-i in (omega arith, rw (c.hit_at.ensures, l.invariant.1) (pad_on (λ k. hit_at c.args.bytes.now (c.args.at + 10 * k)) no_hit 98 l.i (omega arith)))
 
 pub returns : goal.returns
-returns c = let a = c.args in let l = c.loop-i in let e : l.i ≡ a.n = omega arith in l.invariant.1 ∙ ap (λ k. pad no_hit 98 (hits_at a.bytes.now a.at k)) e
+returns c = let l = c.loop-i in let e : l.i ≡ c.args.n = omega arith in l.invariant.1 ∙ ap (λ k. pad no_hit 98 (hits_at c.args.bytes.now c.args.at k)) e

@@ -41,13 +41,12 @@ loop-i-preserved c =
 
 pub returns : goal.returns
 returns c =
-    let a = c.args in
     let l = c.loop-i in
     ⊎_elim
     (λ w.
-    let h : l.i < a.n = omega (arith, w.0.taken) in
-    ne_eqb l.i a.n (λ e. omega arith) ∙ all_to_fails (λ j. hit_within (hit_at a.bytes.now (a.at + 10 * j))) a.n l.i h (sym w.1.ensures ∙ w.2.left))
+    let h : l.i < c.args.n = omega (arith, w.0.taken) in
+    ne_eqb l.i c.args.n (λ e. omega arith) ∙ all_to_fails (λ j. hit_within (hit_at c.args.bytes.now (c.args.at + 10 * j))) c.args.n l.i h (sym w.1.ensures ∙ w.2.left))
     (λ w.
-    let e : l.i ≡ a.n = omega (arith, w.left) in
-    eq-eqb l.i a.n e ∙ sym l.invariant.1 ∙ ap (hits_pass a.bytes.now a.at) e)
+    let e : l.i ≡ c.args.n = omega (arith, w.left) in
+    eq-eqb l.i c.args.n e ∙ sym l.invariant.1 ∙ ap (hits_pass c.args.bytes.now c.args.at) e)
     c.loop-i-test.branch

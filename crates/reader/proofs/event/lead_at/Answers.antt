@@ -15,8 +15,7 @@ use Rattle.reader.proofs.event.lead_at.Goals as goal
 
 pub loop-i-init : goal.loop-i-init
 loop-i-init c =
-    let a = c.args in
-    (omega arith, sym (pad_start (λ k. note_at a.edition true a.bytes.now (a.at + note_width a.edition * k)) no_note 56))
+    (omega arith, sym (pad_start (λ k. note_at c.args.edition true c.args.bytes.now (c.args.at + note_width c.args.edition * k)) no_note 56))
 
 pub overflow_mul-width : goal.overflow_mul-width
 overflow_mul-width c =
@@ -31,16 +30,14 @@ overflow_add-at c =
 pub note_at-requires : goal.note_at-requires
 note_at-requires c =
     let w = c.note_width-width.ensures in
-    let a = c.args in
     let i = c.loop-i.i in
     rw w
-    (omega (arith, c.requires.n_in_bounds.0, width_fits a.edition i a.n c.loop-i-test.true), all_to_at (λ i. note_within a.edition true (note_at a.edition true a.bytes.now (a.at + note_width a.edition * i))) a.n c.requires.n_value i c.loop-i-test.true)
+    (omega (arith, c.requires.n_in_bounds.0, width_fits c.args.edition i c.args.n c.loop-i-test.true), all_to_at (λ i. note_within c.args.edition true (note_at c.args.edition true c.args.bytes.now (c.args.at + note_width c.args.edition * i))) c.args.n c.requires.n_value i c.loop-i-test.true)
 
 pub loop-i-preserved : goal.loop-i-preserved
 loop-i-preserved c =
-    let a = c.args in
     let l = c.loop-i in
-    (omega arith, rw (c.note_at.ensures, c.note_width-width.ensures, l.invariant.1) (pad_on (λ k. note_at a.edition true a.bytes.now (a.at + note_width a.edition * k)) no_note 56 l.i (omega arith)))
+    (omega arith, rw (c.note_at.ensures, c.note_width-width.ensures, l.invariant.1) (pad_on (λ k. note_at c.args.edition true c.args.bytes.now (c.args.at + note_width c.args.edition * k)) no_note 56 l.i (omega arith)))
 
 pub returns : goal.returns
-returns c = let a = c.args in let l = c.loop-i in let e : l.i ≡ a.n = omega arith in l.invariant.1 ∙ ap (λ k. pad no_note 56 (notes_at a.edition true a.bytes.now a.at k)) e
+returns c = let l = c.loop-i in let e : l.i ≡ c.args.n = omega arith in l.invariant.1 ∙ ap (λ k. pad no_note 56 (notes_at c.args.edition true c.args.bytes.now c.args.at k)) e

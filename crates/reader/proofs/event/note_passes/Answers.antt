@@ -26,8 +26,7 @@ bar_and_midi d =
     d.if-bar-lt8.branch
 
 and_role : (d : Joined-midi-le127)
-    → let a = d.args in
-    d.if-midi-le127.if3 ≡ (d.if-bar-lt8.if2 && role_within a.edition a.leads (role_at a.edition a.leads a.bytes.now (a.at + 14)))
+    → d.if-midi-le127.if3 ≡ (d.if-bar-lt8.if2 && role_within d.args.edition d.args.leads (role_at d.args.edition d.args.leads d.args.bytes.now (d.args.at + 14)))
 and_role d =
     ⊎_elim
     (λ w. and_then _ w.0.taken (w.2 ∙ w.1.ensures))
@@ -35,8 +34,7 @@ and_role d =
     d.if-midi-le127.branch
 
 and_time : (d : Joined-role_passes)
-    → let a = d.args in
-    d.if-role_passes.if4 ≡ (d.if-midi-le127.if3 && finite (f32_at a.bytes.now (a.at + 1)))
+    → d.if-role_passes.if4 ≡ (d.if-midi-le127.if3 && finite (f32_at d.args.bytes.now (d.args.at + 1)))
 and_time d =
     ⊎_elim
     (λ w. and_then _ w.0.taken (w.2 ∙ w.1.ensures))
@@ -44,8 +42,7 @@ and_time d =
     d.if-role_passes.branch
 
 and_vel : (d : Joined-finite_at)
-    → let a = d.args in
-    d.if-finite_at.if5 ≡ (d.if-role_passes.if4 && finite (f32_at a.bytes.now (a.at + 6)))
+    → d.if-finite_at.if5 ≡ (d.if-role_passes.if4 && finite (f32_at d.args.bytes.now (d.args.at + 6)))
 and_vel d =
     ⊎_elim
     (λ w. and_then _ w.0.taken (w.2 ∙ w.1.ensures))
@@ -53,13 +50,11 @@ and_vel d =
     d.if-finite_at.branch
 
 all_six : (d : Joined-finite_at)
-    → let a = d.args in
-    (d.if-finite_at.if5 && finite (f32_at a.bytes.now (a.at + 10))) ≡ note_within a.edition a.leads (note_at a.edition a.leads a.bytes.now a.at)
+    → (d.if-finite_at.if5 && finite (f32_at d.args.bytes.now (d.args.at + 10))) ≡ note_within d.args.edition d.args.leads (note_at d.args.edition d.args.leads d.args.bytes.now d.args.at)
 unfolding note_at
 all_six d =
-    let a = d.args in
     rw (and_vel d, and_time d.before, and_role d.before.before, bar_and_midi d.before.before.before, d.byte_in-midi.ensures, d.byte_in-bar.ensures)
-    (note_tests a.edition a.leads (note_at a.edition a.leads a.bytes.now a.at) refl)
+    (note_tests d.args.edition d.args.leads (note_at d.args.edition d.args.leads d.args.bytes.now d.args.at) refl)
 
 pub byte_in-bar-requires : goal.byte_in-bar-requires
 byte_in-bar-requires c = omega (arith, c.requires, width_least c.args.edition)

@@ -22,20 +22,17 @@ loop-i-init c = (omega arith, refl)
 pub overflow_mul-width : goal.overflow_mul-width
 overflow_mul-width c =
     let w = c.note_width-width.ensures in
-    let a = c.args in
-    rw w (omega (arith, width_fits a.edition c.loop-i.i a.n (omega (arith, ltb-true))))
+    rw w (omega (arith, width_fits c.args.edition c.loop-i.i c.args.n (omega (arith, ltb-true))))
 
 pub overflow_add-at : goal.overflow_add-at
 overflow_add-at c =
     let w = c.note_width-width.ensures in
-    let a = c.args in
-    rw w (omega (arith, width_fits a.edition c.loop-i.i a.n (omega (arith, ltb-true))))
+    rw w (omega (arith, width_fits c.args.edition c.loop-i.i c.args.n (omega (arith, ltb-true))))
 
 pub note_passes-requires : goal.note_passes-requires
 note_passes-requires c =
     let w = c.note_width-width.ensures in
-    let a = c.args in
-    rw w (omega (arith, width_fits a.edition c.loop-i.i a.n (omega (arith, ltb-true))))
+    rw w (omega (arith, width_fits c.args.edition c.loop-i.i c.args.n (omega (arith, ltb-true))))
 
 pub overflow_add-i : goal.overflow_add-i
 overflow_add-i c = omega (arith, ltb-true)
@@ -52,14 +49,13 @@ loop-i-preserved c =
 
 pub returns : goal.returns
 returns c =
-    let a = c.args in
     let l = c.loop-i in
     let wide = c.note_width-width.ensures in
     ⊎_elim
     (λ w.
-    let h : l.i < a.n = omega (arith, w.0.taken) in
-    ne_eqb l.i a.n (λ e. omega arith) ∙ all_to_fails (λ j. note_within a.edition a.leads (note_at a.edition a.leads a.bytes.now (a.at + note_width a.edition * j))) a.n l.i h (rw (← wide) (sym w.1.ensures ∙ w.2.left)))
+    let h : l.i < c.args.n = omega (arith, w.0.taken) in
+    ne_eqb l.i c.args.n (λ e. omega arith) ∙ all_to_fails (λ j. note_within c.args.edition c.args.leads (note_at c.args.edition c.args.leads c.args.bytes.now (c.args.at + note_width c.args.edition * j))) c.args.n l.i h (rw (← wide) (sym w.1.ensures ∙ w.2.left)))
     (λ w.
-    let e : l.i ≡ a.n = omega (arith, w.left) in
-    eq-eqb l.i a.n e ∙ sym l.invariant.1 ∙ ap (notes_pass a.edition a.leads a.bytes.now a.at) e)
+    let e : l.i ≡ c.args.n = omega (arith, w.left) in
+    eq-eqb l.i c.args.n e ∙ sym l.invariant.1 ∙ ap (notes_pass c.args.edition c.args.leads c.args.bytes.now c.args.at) e)
     c.loop-i-test.branch

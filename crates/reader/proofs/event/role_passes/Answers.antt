@@ -7,20 +7,20 @@ use Rattle.reader.proofs.CodeLaws.{role_tests}
 use Rattle.reader.proofs.event.role_passes.Goals as goal
 
 pub byte_in-number-requires : goal.byte_in-number-requires
-byte_in-number-requires c = omega (arith, rw c.enum_told-in-Two-1.given.1 at c.requires)
+byte_in-number-requires c = omega (arith, rw c.in-Two.is at c.requires)
 
 pub returns-then-leads : goal.returns-then-leads
 unfolding role_at
 returns-then-leads c =
     let i = c.byte_in-number in
-    rw (c.enum_told-in-Two-1.given.1, c.if-leads.true, ← i.ensures) (sym (role_tests _ i.result))
+    rw (c.in-Two.is, c.if-leads.true, ← i.ensures) (sym (role_tests _ i.result))
 
 pub returns-in-One : goal.returns-in-One
 unfolding role_at role_within
-returns-in-One c = rw c.enum_told-1.given.1
+returns-in-One c = rw c.in-One.is
 
 pub returns-else-leads : goal.returns-else-leads
 unfolding role_at
 returns-else-leads c =
     let i = c.byte_in-number in
-    rw (c.enum_told-in-Two-1.given.1, c.if-leads.false, ← i.ensures) (sym (role_tests _ i.result))
+    rw (c.in-Two.is, c.if-leads.false, ← i.ensures) (sym (role_tests _ i.result))

@@ -4,8 +4,8 @@ use Rattle.reader.proofs.layout.is_led.Goals as goal
 
 pub returns-in-One : goal.returns-in-One
 unfolding led
-returns-in-One c = rw c.enum_told-1.given.1
+returns-in-One c = rw c.in-One.is
 
 pub returns-in-Two : goal.returns-in-Two
 unfolding led
-returns-in-Two c = rw (c.enum_told-in-Two-1.given.1, c.byte_at-body.ensures, c.u16_at-size.ensures)
+returns-in-Two c = rw (c.in-Two.is, c.byte_at-body.ensures, c.u16_at-size.ensures)

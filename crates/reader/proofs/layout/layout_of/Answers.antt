@@ -14,7 +14,7 @@ unfolding start_at
 loop-k-init c =
     let b = c.args.bytes.now in
     let f = c.field_size-at.ensures in
-    (omega arith, omega (arith, f.1), f.0 ∙ ap edition_size c.edition_in-edition.ensures, sym (pad_start (body_at b) 0 10), sym (pad_start (size_at b) 0 10))
+    (omega arith, omega (arith, f.upper_bound), f.value ∙ ap edition_size c.edition_in-edition.ensures, sym (pad_start (body_at b) 0 10), sym (pad_start (size_at b) 0 10))
 
 pub loop-k-preserved : goal.loop-k-preserved
 unfolding start_at

@@ -15,17 +15,17 @@ octets c i = omega (arith, c.shared_slice_known-1.given i)
 pub song_in-song-requires : goal.song_in-song-requires
 song_in-song-requires c =
     let b = c.args.bytes.now in
-    let done : (read_of b).outcome ≡ Outcome.Done = sym c.outcome_of-outcome.ensures ∙ c.enum_told-1.given.1 in
+    let done : (read_of b).outcome ≡ Outcome.Done = sym c.outcome_of-outcome.ensures ∙ c.in-Done.is in
     let p = passes b done in
     (c.layout_of-l.ensures, (formed_roomy b p.formed, p.within))
 
 pub returns-in-Refused : goal.returns-in-Refused
 returns-in-Refused c =
-    let e = sym c.outcome_of-outcome.ensures ∙ c.outcome-1.given.1 in
+    let e = sym c.outcome_of-outcome.ensures ∙ c.in-Refused.is in
     record { value = c.refused.ensures ∙ sym (read_refused_lem c.args.bytes.now _ e); octets = octets (goal.at.returns-in-Refused c).After-shared_slice_known-1 }
 
 pub returns-in-Done : goal.returns-in-Done
 returns-in-Done c =
     let b = c.args.bytes.now in
-    let done : (read_of b).outcome ≡ Outcome.Done = sym c.outcome_of-outcome.ensures ∙ c.enum_told-1.given.1 in
+    let done : (read_of b).outcome ≡ Outcome.Done = sym c.outcome_of-outcome.ensures ∙ c.in-Done.is in
     record { value = rw c.song_in-song.ensures (sym (passes_read b (passes b done))); octets = octets (goal.at.returns-in-Done c).After-shared_slice_known-1 }

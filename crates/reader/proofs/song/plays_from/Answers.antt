@@ -14,7 +14,7 @@ pub loop-b-init : goal.loop-b-init
 loop-b-init c = (omega arith, sym (pad_start (λ k. plays_coded (byte_at c.args.bytes.now (c.args.at + k))) silent 64))
 
 pub loop-b-preserved : goal.loop-b-preserved
-loop-b-preserved c = let a = c.args in let l = c.loop-b in (omega arith, rw (c.plays_coded.ensures, c.byte_in-byte.ensures, l.invariant.1) (pad_on (λ k. plays_coded (byte_at a.bytes.now (a.at + k))) silent 64 l.b (omega arith)))
+loop-b-preserved c = let l = c.loop-b in (omega arith, rw (c.plays_coded.ensures, c.byte_in-byte.ensures, l.invariant.1) (pad_on (λ k. plays_coded (byte_at c.args.bytes.now (c.args.at + k))) silent 64 l.b (omega arith)))
 
 pub returns : goal.returns
-returns c = let a = c.args in let l = c.loop-b in let e : l.b ≡ a.n = omega arith in l.invariant.1 ∙ ap (λ k. pad silent 64 (plays_from a.bytes.now a.at k)) e
+returns c = let l = c.loop-b in let e : l.b ≡ c.args.n = omega arith in l.invariant.1 ∙ ap (λ k. pad silent 64 (plays_from c.args.bytes.now c.args.at k)) e

@@ -11,8 +11,8 @@ pub loop-i-init : goal.loop-i-init
 loop-i-init c = (omega arith, sym (pad_start (λ k. byte_at c.args.bytes.now (c.args.at + k)) 0 6))
 
 pub loop-i-preserved : goal.loop-i-preserved
-loop-i-preserved c = let a = c.args in let l = c.loop-i in (omega arith, rw (c.byte_in.ensures, l.invariant.1) (pad_on (λ k. byte_at a.bytes.now (a.at + k)) 0 6 l.i (omega arith)))
+loop-i-preserved c = let l = c.loop-i in (omega arith, rw (c.byte_in.ensures, l.invariant.1) (pad_on (λ k. byte_at c.args.bytes.now (c.args.at + k)) 0 6 l.i (omega arith)))
 
 pub returns : goal.returns
 unfolding scale_at
-returns c = let a = c.args in let l = c.loop-i in let e : l.i ≡ a.n = omega arith in rw (l.invariant.1, e)
+returns c = let l = c.loop-i in let e : l.i ≡ c.args.n = omega arith in rw (l.invariant.1, e)

@@ -40,7 +40,7 @@ same : (d : Start) → d.args.l.edition ≡ edition_in d.args.bytes.now
 same d = edition_in_lem d.args.bytes.now d.requires.l_value
 
 held : (d : Start) → Roomy d.args.bytes.now
-held d = d.requires.roomy.0
+held d = d.requires.roomy
 
 -- part by part, each a name here: a rewriting of the whole score at once is too much work
 score_is : (b : List ℕ) {style : Style} {bpm : Float} {chords : List Chord} {lead keys bass : List Note} {hits : List Hit} {l k h m : ℕ} {voice : LeadVoice}
@@ -51,7 +51,7 @@ score_is : (b : List ℕ) {style : Style} {bpm : Float} {chords : List Chord} {l
 score_is b p1 p2 p3 p4 p5 p6 p7 p8 p9 p10 p11 p12 = rw (p1, p2, p3, p4, p5, p6, p7, p8, p9, p10, p11, p12)
 
 told : (d : Start) → ScoreTold (edition_in d.args.bytes.now) (score_in d.args.bytes.now)
-told d = score_told (edition_in d.args.bytes.now) (score_in d.args.bytes.now) d.requires.roomy.1
+told d = score_told (edition_in d.args.bytes.now) (score_in d.args.bytes.now) d.requires.bytes_value
 
 pub byte_in-style_number-requires : goal.byte_in-style_number-requires
 byte_in-style_number-requires c = omega (arith, body (goal.at.byte_in-style_number-requires c).Start 0 (omega arith), (held (goal.at.byte_in-style_number-requires c).Start).name)
@@ -125,7 +125,7 @@ returns c =
     (both_are (λ n w. n / w) (size (goal.at.returns c).Start 4 (omega arith)) wide)
     (c.keys_at-keys.ensures ∙ all_are (λ e a n w. pad no_note 128 (notes_at e false b a (n / w))) (same (goal.at.returns c).Start) (body (goal.at.returns c).Start 5 (omega arith)) (size (goal.at.returns c).Start 5 (omega arith)) wide)
     (both_are (λ n w. n / w) (size (goal.at.returns c).Start 5 (omega arith)) wide)
-    (c.hits_at-hits.Hits-at.ensures ∙ both_are (λ a n. pad no_hit 98 (hits_at b a (n / 10))) (body (goal.at.returns c).Start 6 (omega arith)) (size (goal.at.returns c).Start 6 (omega arith)))
+    (c.hits_at-hits.ensures ∙ both_are (λ a n. pad no_hit 98 (hits_at b a (n / 10))) (body (goal.at.returns c).Start 6 (omega arith)) (size (goal.at.returns c).Start 6 (omega arith)))
     (ap (λ (n : ℕ). n / 10) (size (goal.at.returns c).Start 6 (omega arith)))
     (c.bass_at-bass.ensures ∙ all_are (λ e a n w. pad no_note 104 (notes_at e false b a (n / w))) (same (goal.at.returns c).Start) (body (goal.at.returns c).Start 7 (omega arith)) (size (goal.at.returns c).Start 7 (omega arith)) wide)
     (both_are (λ n w. n / w) (size (goal.at.returns c).Start 7 (omega arith)) wide)

@@ -4,12 +4,12 @@ use Rattle.reader.proofs.within.role_within.Goals as goal
 
 pub returns-then-leads : goal.returns-then-leads
 unfolding role_within
-returns-then-leads c = rw (c.enum_told-in-Two-1.given.1, c.if-leads.true, c.number-number.ensures)
+returns-then-leads c = rw (c.in-Two.is, c.if-leads.true, c.number-number.ensures)
 
 pub returns-in-One : goal.returns-in-One
 unfolding role_within
-returns-in-One c = rw (c.enum_told-1.given.1, c.number-number.ensures)
+returns-in-One c = rw (c.in-One.is, c.number-number.ensures)
 
 pub returns-else-leads : goal.returns-else-leads
 unfolding role_within
-returns-else-leads c = rw (c.enum_told-in-Two-1.given.1, c.if-leads.false, c.number-number.ensures)
+returns-else-leads c = rw (c.in-Two.is, c.if-leads.false, c.number-number.ensures)

@@ -14,13 +14,13 @@ octets c i = omega (arith, c.shared_slice_known-1.given i)
 pub returns-in-Refused : goal.returns-in-Refused
 unfolding reread_asked
 returns-in-Refused c =
-    let e = sym c.outcome_of-outcome.ensures ∙ c.outcome-1.given.1 in
+    let e = sym c.outcome_of-outcome.ensures ∙ c.in-Refused.is in
     (rw e, (rw e, octets (goal.at.returns-in-Refused c).After-shared_slice_known-1))
 
 pub returns-in-Done : goal.returns-in-Done
 returns-in-Done c =
     let b = c.args.sheet.now in
-    let done : (read_of b).outcome ≡ Outcome.Done = sym c.outcome_of-outcome.ensures ∙ c.enum_told-1.given.1 in
+    let done : (read_of b).outcome ≡ Outcome.Done = sym c.outcome_of-outcome.ensures ∙ c.in-Done.is in
     let e = reread_done b (octets (goal.at.returns-in-Done c).After-shared_slice_known-1) done in
     let w = c.bytes_into.ensures in
-    (rw e w.0, (rw e w.1, octets (goal.at.returns-in-Done c).After-shared_slice_known-1))
+    (rw e w.value, (rw e w.buf_after, octets (goal.at.returns-in-Done c).After-shared_slice_known-1))

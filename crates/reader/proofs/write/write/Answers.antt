@@ -15,22 +15,22 @@ typed d = song_typed d.args.v _ d.well-formed.0
 pub returns-then-not-within-cleared : goal.returns-then-not-within-cleared
 returns-then-not-within-cleared c =
     let v = c.args.v in
-    let w = c.is_within-within.is_Within in
+    let w = c.is_within-within in
     let z = c.is_cleared-cleared in
     let e : valid v ≡ false = tests_valid v w.ensures z.ensures (not-true (w.result && z.result) c.if-not-within-cleared.true) in
     rw (asked_other v e) (refl, (refl, typed (goal.at.returns-then-not-within-cleared c).Start))
 
 pub song_into-requires : goal.song_into-requires
 song_into-requires c =
-    let w = c.is_within-within.is_Within in
+    let w = c.is_within-within in
     let z = c.is_cleared-cleared in
     sym w.ensures ∙ (both w.result z.result (not-false (w.result && z.result) c.if-not-within-cleared.false)).0
 
 pub returns : goal.returns
 returns c =
     let v = c.args.v in
-    let w = c.is_within-within.is_Within in
+    let w = c.is_within-within in
     let z = c.is_cleared-cleared in
     let e : valid v ≡ true = tests_valid v w.ensures z.ensures (not-false (w.result && z.result) c.if-not-within-cleared.false) in
     let s = c.song_into.ensures in
-    rw (asked_valid v e) (s.0, (s.1, typed (goal.at.returns c).Start))
+    rw (asked_valid v e) (s.value, (s.buf_after, typed (goal.at.returns c).Start))

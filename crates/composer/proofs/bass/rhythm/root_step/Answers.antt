@@ -12,19 +12,19 @@ loop-i-init c = (omega arith, refl)
 pub returns-then-c : goal.returns-then-c
 unfolding root_step_of
 returns-then-c c =
-    let l = c.p-1.loop in
+    let l = c.loop-i in
     let hit = root_hit l.stream l.left l.i (omega arith) (ap (λ r. r.value) (sym c.chance-c.ensures) ∙ c.if-c.true) in
-    record { value = rw (c.chance-c.ensures, ← c.loop-i-test.first-beat-sum.ensures) (sym hit ∙ l.invariant.1); step_bound = omega arith }
+    record { value = rw (c.chance-c.ensures, ← c.first_beat_sum-left.ensures) (sym hit ∙ l.invariant.1); step_bound = omega arith }
 
 pub loop-i-preserved : goal.loop-i-preserved
 loop-i-preserved c =
-    let l = c.p-1.loop in
+    let l = c.loop-i in
     let miss = root_miss l.stream l.left l.i (omega arith) (ap (λ r. r.value) (sym c.chance-c.ensures) ∙ c.if-c.false) in
     (omega arith, rw c.chance-c.ensures (sym miss ∙ l.invariant.1))
 
 pub returns : goal.returns
 unfolding root_step_of
 returns c =
-    let l = c.chance-arg-1.loop in
+    let l = c.loop-i in
     let last = root_last l.stream l.left l.i (omega arith) in
-    record { value = rw (c.chance-c-2.ensures, ← c.loop-i-test.first-beat-sum.ensures) (sym last ∙ l.invariant.1); step_bound = omega arith }
+    record { value = rw (c.chance-c-2.ensures, ← c.first_beat_sum-left.ensures) (sym last ∙ l.invariant.1); step_bound = omega arith }

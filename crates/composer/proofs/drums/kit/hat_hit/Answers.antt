@@ -5,4 +5,4 @@ use Rattle.composer.proofs.drums.kit.hat_hit.Goals as goal
 pub returns : goal.returns
 unfolding hat_hit_of
 returns c =
-    rw (c.draw-v.ensures, c.velocity-1.hat-kind.ensures, c.hat_kind-kind.held-at-zero.ensures, c.struct_known-1.draw.ensures, c.draw-j.hat-slot.ensures)
+    rw (c.draw-v.ensures, c.hat_kind-kind.ensures, c.held_at_zero-at.ensures, c.draw-j.ensures, c.hat_slot-slot.ensures)

@@ -5,4 +5,4 @@ use Rattle.composer.proofs.drums.kit.kick_hit.Goals as goal
 pub returns : goal.returns
 unfolding kick_hit_of
 returns c =
-    rw (c.draw-a.ensures, c.draw-arg-1.held-at-zero.ensures, c.struct_known-1.draw.ensures, c.draw-j.kick-slot.ensures, c.kick_slot-slot.kick-beat.ensures)
+    rw (c.draw-a.ensures, c.held_at_zero-at.ensures, c.draw-j.ensures, c.kick_slot-slot.ensures, c.kick_beat-beat.ensures)

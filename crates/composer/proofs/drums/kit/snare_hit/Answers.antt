@@ -5,4 +5,4 @@ use Rattle.composer.proofs.drums.kit.snare_hit.Goals as goal
 pub returns : goal.returns
 unfolding snare_hit_of
 returns c =
-    rw (c.draw-a.ensures, c.draw-arg-1.held-at-zero.ensures, c.struct_known-1.at.ensures, c.at.draw.ensures)
+    rw (c.draw-a.ensures, c.held_at_zero-at.ensures, c.at.ensures, c.draw-j.ensures)

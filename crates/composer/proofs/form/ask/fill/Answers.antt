@@ -16,8 +16,7 @@ loop-i-init c = (omega arith, sym (splice_none c.args.plays c.args.a))
 pub loop-i-preserved : goal.loop-i-preserved
 loop-i-preserved c =
     let l = c.loop-i in
-    let a = c.args in
-    (omega arith, ap (λ (o : List Plays). set o (a.a + l.i) all) l.invariant.1 ∙ fill_step a.plays a.a l.i (omega arith))
+    (omega arith, ap (λ (o : List Plays). set o (c.args.a + l.i) all) l.invariant.1 ∙ fill_step c.args.plays c.args.a l.i (omega arith))
 
 pub returns : goal.returns
 returns c =

@@ -14,4 +14,4 @@ overflow_add-result c =
 pub returns : goal.returns
 unfolding decisions_by
 returns c =
-    rw (c.long_outro_p-share.ensures, c.closing_of-closing.ensures, c.cuts_by-cuts.ensures, c.thinning_of-thinning.ensures, c.picked-more.ensures, c.opening_of-opening.Opening-of.ensures)
+    rw (c.long_outro_p-share.ensures, c.closing_of-closing.ensures, c.cuts_by-cuts.ensures, c.thinning_of-thinning.ensures, c.picked-more.ensures, c.opening_of-opening.ensures)

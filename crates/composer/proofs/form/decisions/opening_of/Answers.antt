@@ -1,15 +1,15 @@
 -- The row is one of the table. Assumes nothing.
-use mathlib.Core.List.{◌∷◌}
+use mathlib.Core.List.{[], ◌∷◌}
 use native.Mathlib.Omega.{arith}
 use Rattle.composer.specs.Form.Decisions.{opening_of}
 use Rattle.composer.proofs.BandLaws.{band_le}
 use Rattle.composer.proofs.form.decisions.opening_of.Goals as goal
 
 pub offset_bounds-row : goal.offset_bounds-row
-offset_bounds-row c = omega (arith, c.band-row.ensures, band_le c.band-arg-1.args.u 27 (13 ∷ 10 ∷ 7 ∷ 5 ∷ 13 ∷ 10 ∷ 5 ∷ []))
+offset_bounds-row c = omega (arith, c.band-row.ensures, band_le c.args.u 27 (13 ∷ 10 ∷ 7 ∷ 5 ∷ 13 ∷ 10 ∷ 5 ∷ []))
 
 pub bounds-row-row : goal.bounds-row-row
-bounds-row-row c = omega (arith, c.band-row.ensures, band_le c.band-arg-1.args.u 27 (13 ∷ 10 ∷ 7 ∷ 5 ∷ 13 ∷ 10 ∷ 5 ∷ []))
+bounds-row-row c = omega (arith, c.band-row.ensures, band_le c.args.u 27 (13 ∷ 10 ∷ 7 ∷ 5 ∷ 13 ∷ 10 ∷ 5 ∷ []))
 
 pub returns : goal.returns
 unfolding opening_of

@@ -2,7 +2,7 @@
 use Rattle.composer.proofs.form.song.intro_of.Goals as goal
 
 pub returns-in-Sparse : goal.returns-in-Sparse
-returns-in-Sparse c = rw (c.enum_told-1.given.1, c.bars_by-n.ensures)
+returns-in-Sparse c = rw (c.in-Sparse.is, c.bars_by-n.ensures)
 
 pub returns-in-Edged : goal.returns-in-Edged
-returns-in-Edged c = rw (c.o-1.given.1, c.bars_by-n.ensures)
+returns-in-Edged c = rw (c.in-Edged.is, c.bars_by-n.ensures)

@@ -2,7 +2,7 @@
 use Rattle.composer.proofs.form.song.intro_plays.Goals as goal
 
 pub returns-in-Edged : goal.returns-in-Edged
-returns-in-Edged c = rw c.enum_told-1.given.1
+returns-in-Edged c = rw c.in-Edged.is
 
 pub returns-in-Cold : goal.returns-in-Cold
-returns-in-Cold c = rw c.enum_told-in-Cold-1.given.1
+returns-in-Cold c = rw c.in-Cold.is

@@ -16,8 +16,7 @@ loop-b-init c = (omega arith, sym (pad_start (song_bar_of c.args.d c.args.n) sil
 pub loop-b-preserved : goal.loop-b-preserved
 loop-b-preserved c =
     let l = c.loop-b in
-    let a = c.args in
-    (omega arith, rw (l.invariant.1, c.intro_plays-intro.ensures, in_intro a.d a.n l.b (omega arith)) (pad_on (song_bar_of a.d a.n) silent 64 l.b (omega arith)))
+    (omega arith, rw (l.invariant.1, c.intro_plays-intro.ensures, in_intro c.args.d c.args.n l.b (omega arith)) (pad_on (song_bar_of c.args.d c.args.n) silent 64 l.b (omega arith)))
 
 pub loop-p-init : goal.loop-p-init
 loop-p-init c = let l = c.loop-b in (omega arith, refl, omega arith, l.invariant.1)
@@ -28,9 +27,8 @@ loop-i-init c = let l = c.loop-p in (omega arith, omega arith, l.invariant.3)
 pub loop-i-preserved : goal.loop-i-preserved
 loop-i-preserved c =
     let l = c.loop-i in
-    let a = c.args in
-    let bar = c.phrase_bar.ensures ∙ ap (λ (h : Phrase). phrase_bar_of h l.i) c.phrase_of-phrase.ensures ∙ in_phrase a.d a.n c.loop-p.p l.i l.b (omega arith) (omega arith) l.invariant.1 in
-    (omega arith, omega arith, rw (l.invariant.2, bar) (pad_on (song_bar_of a.d a.n) silent 64 l.b (omega arith)))
+    let bar = c.phrase_bar.ensures ∙ ap (λ (h : Phrase). phrase_bar_of h l.i) c.phrase_of-phrase.ensures ∙ in_phrase c.args.d c.args.n c.loop-p.p l.i l.b (omega arith) (omega arith) l.invariant.1 in
+    (omega arith, omega arith, rw (l.invariant.2, bar) (pad_on (song_bar_of c.args.d c.args.n) silent 64 l.b (omega arith)))
 
 pub loop-p-preserved : goal.loop-p-preserved
 loop-p-preserved c =
@@ -44,9 +42,8 @@ loop-b-2-init c = let l = c.loop-p in (omega arith, omega arith, omega arith, l.
 pub loop-b-2-preserved : goal.loop-b-2-preserved
 loop-b-2-preserved c =
     let l = c.loop-b-2 in
-    let a = c.args in
-    let bar = c.outro_plays.ensures ∙ ap (λ (m : ℕ). outro_plays a.d.closing (l.b - m)) l.invariant.2 ∙ in_outro a.d a.n l.b (omega arith) in
-    (omega arith, omega arith, l.invariant.2, rw (l.invariant.3, bar) (pad_on (song_bar_of a.d a.n) silent 64 l.b (omega arith)))
+    let bar = c.outro_plays.ensures ∙ ap (λ (m : ℕ). outro_plays c.args.d.closing (l.b - m)) l.invariant.2 ∙ in_outro c.args.d c.args.n l.b (omega arith) in
+    (omega arith, omega arith, l.invariant.2, rw (l.invariant.3, bar) (pad_on (song_bar_of c.args.d c.args.n) silent 64 l.b (omega arith)))
 
 pub returns : goal.returns
 returns c =

@@ -9,7 +9,7 @@ use Rattle.composer.proofs.lead.answer.answer_bar.Goals as goal
 pub settle-done-requires : goal.settle-done-requires
 settle-done-requires c =
     let d = c.drop_one-left in
-    let few = d.ensures.1 in
+    let few = c.drop_one-left.ensures.n_bound in
     let k : length d.result.beats.at ≡ 7 = search rules in
     (few, omega arith)
 

@@ -15,7 +15,7 @@ use Rattle.composer.proofs.lead.answer.varied.Invariants.{held_of}
 use Rattle.composer.proofs.lead.answer.varied.Goals as goal
 use Rattle.composer.proofs.lead.answer.varied.Goals.{Start}
 
-seven_at : (d : Start invariant_loop decreases_loop) → length d.args.b.at ≡ 7
+seven_at : (d : Start) → length d.args.b.at ≡ 7
 seven_at d = search rules
 
 pub loop-i-init : goal.loop-i-init
@@ -26,15 +26,13 @@ pub loop-i-preserved : goal.loop-i-preserved
 unfolding vary_of push_on_of
 loop-i-preserved c =
     let l = c.loop-i in
-    let a = c.args in
     let k = seven_at (goal.at.loop-i-preserved c).Start in
-    let e : held_of (set l.at l.i c.push-d.result.value) c.push-d.result.stream (l.i + 1) ≡ vary_of (held_of l.at l.stream l.i) (get_or a.b.at l.i nan) = rw (c.push-d.ensures, c.shift-m.ensures) in
-    (omega arith, fold_on vary_of (empty_from a.s) a.b.at l.i nan _ _ (omega arith) l.invariant.1 e)
+    let e : held_of (set l.at l.i c.push-d.result.value) c.push-d.result.stream (l.i + 1) ≡ vary_of (held_of l.at l.stream l.i) (get_or c.args.b.at l.i nan) = rw (c.push-d.ensures, c.shift-m.ensures) in
+    (omega arith, fold_on vary_of (empty_from c.args.s) c.args.b.at l.i nan _ _ (omega arith) l.invariant.1 e)
 
 pub returns : goal.returns
 unfolding varied_of
 returns c =
     let l = c.loop-i in
-    let a = c.args in
-    let e : l.i ≡ a.b.n = omega arith in
-    record { value = ap (held_of l.at l.stream) (sym e) ∙ l.invariant.1 ∙ ap (λ i. foldl vary_of (empty_from a.s) (take i a.b.at)) e; n_bound = omega arith }
+    let e : l.i ≡ c.args.b.n = omega arith in
+    record { value = ap (held_of l.at l.stream) (sym e) ∙ l.invariant.1 ∙ ap (λ i. foldl vary_of (empty_from c.args.s) (take i c.args.b.at)) e; n_bound = omega arith }

@@ -12,21 +12,18 @@ use Rattle.composer.proofs.lead.beats.remove.Goals as goal
 
 pub loop-i-init : goal.loop-i-init
 loop-i-init c =
-    let s = c.args in
-    (omega arith, omega arith, sym (pad_start (left_at s.b.at s.k) zero32 7))
+    (omega arith, omega arith, sym (pad_start (left_at c.args.b.at c.args.k) zero32 7))
 
 pub loop-i-preserved : goal.loop-i-preserved
 loop-i-preserved c =
     let l = c.loop-i in
-    let s = c.args in
-    (omega arith, omega arith, rw (l.invariant.2, c.left_at.ensures) (pad_on (left_at s.b.at s.k) zero32 7 l.i (omega arith)))
+    (omega arith, omega arith, rw (l.invariant.2, c.left_at.ensures) (pad_on (left_at c.args.b.at c.args.k) zero32 7 l.i (omega arith)))
 
 pub returns : goal.returns
 returns c =
     let l = c.loop-i in
-    let s = c.args in
-    let a = s.b.at in
+    let a = c.args.b.at in
     let n : length a ≡ 7 = search rules in
-    let e : l.i ≡ s.b.n - 1 = omega arith in
-    let w = left_is a s.k s.b.n (omega arith) (omega arith) in
-    record { value = rw (← w, length_list_to (left_at a s.k) (s.b.n - 1), ← e, l.invariant.2); n_bound = omega arith }
+    let e : l.i ≡ c.args.b.n - 1 = omega arith in
+    let w = left_is a c.args.k c.args.b.n (omega arith) (omega arith) in
+    record { value = rw (← w, length_list_to (left_at a c.args.k) (c.args.b.n - 1), ← e, l.invariant.2); n_bound = omega arith }

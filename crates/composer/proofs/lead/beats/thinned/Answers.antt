@@ -40,9 +40,8 @@ loop-i-preserved c =
 pub returns-then-m-eq7 : goal.returns-then-m-eq7
 returns-then-m-eq7 c =
     let l = c.loop-i in
-    let s = c.args in
-    let e : l.i ≡ s.n = omega arith in
-    record { value = rw (← e) (written_full (thin_of nan (take l.i s.a.now)) l.at l.m l.invariant.4 c.if-m-eq7.true); n_bound = omega arith }
+    let e : l.i ≡ c.args.n = omega arith in
+    record { value = rw (← e) (written_full (thin_of nan (take l.i c.args.a.now)) l.at l.m l.invariant.4 c.if-m-eq7.true); n_bound = omega arith }
 
 pub offset_bounds-at-m-2 : goal.offset_bounds-at-m-2
 offset_bounds-at-m-2 c = omega arith
@@ -53,6 +52,5 @@ bounds-at-m-2 c = omega arith
 pub returns : goal.returns
 returns c =
     let l = c.loop-i in
-    let s = c.args in
-    let e : l.i ≡ s.n = omega arith in
-    record { value = rw (← e) (written_rest (thin_of nan (take l.i s.a.now)) l.at l.m l.invariant.4); n_bound = omega arith }
+    let e : l.i ≡ c.args.n = omega arith in
+    record { value = rw (← e) (written_rest (thin_of nan (take l.i c.args.a.now)) l.at l.m l.invariant.4); n_bound = omega arith }

@@ -52,13 +52,12 @@ loop-k-preserved-then-n-eq0 c =
     let sung = sung_with l.notes l.count l.line in (
       omega arith,
       omega arith,
-      bars_more c.args.t2 c.args.t3 c.args.pool.now c.args.style c.requires (sung_with (replicate 56 no_lead) 0 opened) sung sung (ground_of c.args.style (get_or c.args.t3 l.k past_chord) c.args.pool.now) l.k 0 l.invariant.2 refl refl (sym c.if-n-eq0.true),
+      bars_more c.args.beats c.args.bars c.args.pool.now c.args.style c.requires (sung_with (replicate 56 no_lead) 0 opened) sung sung (ground_of c.args.style (get_or c.args.bars l.k past_chord) c.args.pool.now) l.k 0 l.invariant.2 refl refl (sym c.if-n-eq0.true),
     )
 
 pub ground_of-g-requires : goal.ground_of-g-requires
 ground_of-g-requires c =
-    let a = c.args in
-    rw c.scale_notes-sung.ensures (scale_few a.pool.now a.style.lo a.style.hi c.requires.wide)
+    rw c.scale_notes-sung.ensures (scale_few c.args.pool.now c.args.style.lo c.args.style.hi c.requires.wide)
 
 pub loop-i-init : goal.loop-i-init
 unfolding bar_to
@@ -73,7 +72,6 @@ place_of-place-requires c = omega arith
 pub step-t-requires : goal.step-t-requires
 unfolding nothing_sung
 step-t-requires c =
-    let a = c.args in
     let r = c.requires in
     let start = c.start-first in
     let window = c.scale_notes-sung in
@@ -81,8 +79,8 @@ step-t-requires c =
     let l = c.loop-k in
     let g = c.ground_of-g in
     let l2 = c.loop-i in
-    let ground = g.ensures ∙ ground_from_lem a.style (get_or a.t3 l.k past_chord) a.pool.now window.result window.ensures in
-    let asks = note_asks a.t2 a.t3 a.pool.now a.style r a.s start.result (sung_with (replicate 56 no_lead) 0 opened.result) (sung_with l.notes l.count l.line) (sung_with l2.notes l2.count l2.line) g.result l.k l2.i start.ensures (rw opened.ensures) l.invariant.2 ground l2.invariant.4 (omega arith) (omega arith) in
+    let ground = g.ensures ∙ ground_from_lem c.args.style (get_or c.args.bars l.k past_chord) c.args.pool.now window.result window.ensures in
+    let asks = note_asks c.args.beats c.args.bars c.args.pool.now c.args.style r c.args.s start.result (sung_with (replicate 56 no_lead) 0 opened.result) (sung_with l.notes l.count l.line) (sung_with l2.notes l2.count l2.line) g.result l.k l2.i start.ensures (rw opened.ensures) l.invariant.2 ground l2.invariant.4 (omega arith) (omega arith) in
     record { sound = asks.0; fit = rw c.opening-first.ensures asks.1.line }
 
 pub offset_bounds-at-i : goal.offset_bounds-at-i
@@ -105,9 +103,8 @@ loop-i-smaller c = omega arith
 
 pub loop-i-preserved : goal.loop-i-preserved
 loop-i-preserved c =
-    let a = c.args in
     let l0 = c.loop-k in
-    let k = l0.k in
+    let k = c.loop-k.k in
     let g = c.ground_of-g.result in
     let l = c.loop-i in
     let place = c.place_of-place in
@@ -117,7 +114,7 @@ loop-i-preserved c =
       omega arith,
       omega arith,
       omega arith,
-      bar_more a.pool.now g k (get_or a.t2 k past_beats) (sung_with l0.notes l0.count l0.line) l.i l.notes l.count l.line place.result first.result t.result l.invariant.4 place.ensures first.ensures t.ensures,
+      bar_more c.args.pool.now g k (get_or c.args.beats k past_beats) (sung_with l0.notes l0.count l0.line) l.i l.notes l.count l.line place.result first.result t.result l.invariant.4 place.ensures first.ensures t.ensures,
     )
 
 pub overflow_step-k-in-loop-k : goal.overflow_step-k-in-loop-k
@@ -128,16 +125,15 @@ loop-k-smaller c = omega arith
 
 pub loop-k-preserved : goal.loop-k-preserved
 loop-k-preserved c =
-    let a = c.args in
     let window = c.scale_notes-sung in
     let opened = c.open_line-line.result in
     let l = c.loop-k in
     let g = c.ground_of-g in
     let l2 = c.loop-i in
-    let ground = g.ensures ∙ ground_from_lem a.style (get_or a.t3 l.k past_chord) a.pool.now window.result window.ensures in (
+    let ground = g.ensures ∙ ground_from_lem c.args.style (get_or c.args.bars l.k past_chord) c.args.pool.now window.result window.ensures in (
       omega arith,
       omega arith,
-      bars_more a.t2 a.t3 a.pool.now a.style c.requires (sung_with (replicate 56 no_lead) 0 opened) (sung_with l.notes l.count l.line) (sung_with l2.notes l2.count l2.line) g.result l.k l2.i l.invariant.2 ground l2.invariant.4 (omega arith),
+      bars_more c.args.beats c.args.bars c.args.pool.now c.args.style c.requires (sung_with (replicate 56 no_lead) 0 opened) (sung_with l.notes l.count l.line) (sung_with l2.notes l2.count l2.line) g.result l.k l2.i l.invariant.2 ground l2.invariant.4 (omega arith),
     )
 
 pub returns : goal.returns

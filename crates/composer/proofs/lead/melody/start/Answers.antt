@@ -9,21 +9,18 @@ use Rattle.composer.proofs.lead.melody.start.Goals as goal
 
 pub chord_tones-found-requires : goal.chord_tones-found-requires
 chord_tones-found-requires c =
-    let a = c.args in
-    rw c.scale_notes-top.ensures (scale_few a.pool.now (a.style.hi - 12) a.style.hi (omega arith))
+    rw c.scale_notes-top.ensures (scale_few c.args.pool.now (c.args.style.hi - 12) c.args.style.hi (omega arith))
 
 pub near-requires : goal.near-requires
 near-requires c =
-    let a = c.args in
-    let m : max a.style.lo (a.style.hi - 12) ≡ a.style.hi - 12 = omega arith in
+    let m : max c.args.style.lo (c.args.style.hi - 12) ≡ c.args.style.hi - 12 = omega arith in
     let s = rw m at c.requires.3 in
-    rw (c.chord_tones-found.ensures, c.scale_notes-top.ensures, tones_from a.chord.notes a.pool.now (a.style.hi - 12) a.style.hi)
-    (s, tones_few a.chord.notes a.pool.now no_class (a.style.hi - 12) a.style.hi (omega arith))
+    rw (c.chord_tones-found.ensures, c.scale_notes-top.ensures, tones_from c.args.chord.notes c.args.pool.now (c.args.style.hi - 12) c.args.style.hi)
+    (s, tones_few c.args.chord.notes c.args.pool.now no_class (c.args.style.hi - 12) c.args.style.hi (omega arith))
 
 pub returns : goal.returns
 unfolding start_of
 returns c =
-    let a = c.args in
-    let m : max a.style.lo (a.style.hi - 12) ≡ a.style.hi - 12 = omega arith in
+    let m : max c.args.style.lo (c.args.style.hi - 12) ≡ c.args.style.hi - 12 = omega arith in
     c.near.ensures
-    ∙ rw (c.chord_tones-found.ensures, c.scale_notes-top.ensures, tones_from a.chord.notes a.pool.now (a.style.hi - 12) a.style.hi, listed_packed (tones_in a.chord.notes a.pool.now no_class (a.style.hi - 12) a.style.hi), m)
+    ∙ rw (c.chord_tones-found.ensures, c.scale_notes-top.ensures, tones_from c.args.chord.notes c.args.pool.now (c.args.style.hi - 12) c.args.style.hi, listed_packed (tones_in c.args.chord.notes c.args.pool.now no_class (c.args.style.hi - 12) c.args.style.hi), m)

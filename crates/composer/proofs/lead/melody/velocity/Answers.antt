@@ -2,4 +2,4 @@
 use Rattle.composer.proofs.lead.melody.velocity.Goals as goal
 
 pub returns-in-Peak : goal.returns-in-Peak
-returns-in-Peak c = rw c.enum_told-in-Peak-1.given.1
+returns-in-Peak c = rw c.in-Peak.is

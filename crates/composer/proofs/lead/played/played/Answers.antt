@@ -24,13 +24,11 @@ loop-i-smaller c = omega arith
 
 pub loop-i-preserved : goal.loop-i-preserved
 loop-i-preserved c =
-    let a = c.args in
     let l = c.loop-i in
     let p = c.play-p in
-    (omega arith, omega arith, lane_more a.t1 a.beat-s a.dur a.t1.line.stream l.notes l.stream l.i _ p.result l.invariant.2 refl p.ensures)
+    (omega arith, omega arith, lane_more c.args.m c.args.beat_s c.args.dur c.args.m.line.stream l.notes l.stream l.i _ p.result l.invariant.2 refl p.ensures)
 
 pub returns : goal.returns
 returns c =
-    let a = c.args in
     let l = c.loop-i in
-    played_all a.t1 a.beat-s a.dur l.notes l.stream l.i l.invariant.2 (omega arith)
+    played_all c.args.m c.args.beat_s c.args.dur l.notes l.stream l.i l.invariant.2 (omega arith)

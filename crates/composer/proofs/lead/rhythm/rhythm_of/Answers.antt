@@ -31,10 +31,10 @@ pub loop-k-preserved : goal.loop-k-preserved
 unfolding state_to
 loop-k-preserved c =
     let l = c.loop-k in
-    let a = c.args in (
+    (
       omega arith,
       set_short l.bars l.k c.statement_bar-d.result.beats c.statement_bar-d.ensures.n_bound l.invariant.1,
-      rw add-one (state_on a.style (whole l.bars l.stream) (state_to a.style a.s l.k) l.k c.statement_bar-d.result l.invariant.2 c.statement_bar-d.ensures.value),
+      rw add-one (state_on c.args.style (whole l.bars l.stream) (state_to c.args.style c.args.s l.k) l.k c.statement_bar-d.result l.invariant.2 c.statement_bar-d.ensures.value),
     )
 
 pub bounds-bars-0 : goal.bounds-bars-0
@@ -121,9 +121,8 @@ unfolding rhythm_of statement_of pad
 returns c =
     let l = c.loop-k-2 in
     let u = c.loop-k in
-    let a = c.args in
     let e : l.k ≡ 4 = omega arith in
     let g : u.k ≡ 4 = omega arith in
-    let drawn = u.invariant.2 ∙ ap (state_to a.style a.s) g in
-    let said = fallback_by (whole u.bars u.stream) (state_to a.style a.s 4) c.spared-first.result c.spared-third.result drawn c.spared-first.ensures.value c.spared-third.ensures.value in
+    let drawn = u.invariant.2 ∙ ap (state_to c.args.style c.args.s) g in
+    let said = fallback_by (whole u.bars u.stream) (state_to c.args.style c.args.s 4) c.spared-first.result c.spared-third.result drawn c.spared-first.ensures.value c.spared-third.ensures.value in
     record { value = l.invariant.2 ∙ ap (reply_to (whole (set (set u.bars 0 c.spared-first.result) 2 c.spared-third.result) u.stream)) e ∙ ap (λ (r : Rhythm). reply_to r 4) said; by_index = l.invariant.1 }

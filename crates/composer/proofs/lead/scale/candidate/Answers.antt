@@ -9,7 +9,7 @@ above n d zero h = absurd (h refl)
 above n d (suc side) h = refl
 
 pub returns-in-0 : goal.returns-in-0
-returns-in-0 c = rw c.in-0.keys1
+returns-in-0 c = rw c.in-0.is
 
 pub returns-in_default : goal.returns-in_default
 returns-in_default c = above _ _ _ c.in_default.rest.1

@@ -6,14 +6,12 @@ use Rattle.composer.proofs.lead.scale.scale_step.Goals as goal
 
 pub walk-n-requires : goal.walk-n-requires
 walk-n-requires c =
-    let a = c.args in
-    let r = room_in a.up a.lo a.hi a.note c.room-space.ensures (omega arith) (omega arith) in
+    let r = room_in c.args.up c.args.lo c.args.hi c.args.note c.room-space.ensures (omega arith) (omega arith) in
     omega arith
 
 pub snapped-requires : goal.snapped-requires
 snapped-requires c =
-    let a = c.args in
-    let w = walk_in a.pool.now a.up a.lo a.hi a.note c.room-space.result a.steps (omega arith) (omega arith) (omega (arith, c.room-space.ensures)) in
+    let w = walk_in c.args.pool.now c.args.up c.args.lo c.args.hi c.args.note c.room-space.result c.args.steps (omega arith) (omega arith) (omega (arith, c.room-space.ensures)) in
     omega (arith, c.walk-n.ensures)
 
 pub returns : goal.returns

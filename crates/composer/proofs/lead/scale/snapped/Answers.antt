@@ -24,16 +24,15 @@ loop-side-smaller c = omega arith
 
 pub loop-side-preserved : goal.loop-side-preserved
 loop-side-preserved c =
-    let a = c.args in
     let l = c.loop-side in
     let d = c.search.d in
-    let f = ap (fits_of a.pool.now a.lo a.hi) (sym c.candidate-x.ensures) ∙ sym c.fits.ensures ∙ c.if-fits.false in (
+    let f = ap (fits_of c.args.pool.now c.args.lo c.args.hi) (sym c.candidate-x.ensures) ∙ sym c.fits.ensures ∙ c.if-fits.false in (
       omega arith,
       omega arith,
       omega arith,
       l.invariant.3,
       l.invariant.4,
-      l.invariant.5 ∙ snap_miss a.pool.now a.lo a.hi a.n d l.invariant.4 l.side (omega arith) f,
+      l.invariant.5 ∙ snap_miss c.args.pool.now c.args.lo c.args.hi c.args.n d l.invariant.4 l.side (omega arith) f,
     )
 
 pub overflow_step-d : goal.overflow_step-d
@@ -57,8 +56,7 @@ returns-after-search c =
 
 pub returns-then-fits : goal.returns-then-fits
 returns-then-fits c =
-    let a = c.args in
     let l = c.loop-side in
     let d = c.search.d in
-    let f = ap (fits_of a.pool.now a.lo a.hi) (sym c.candidate-x.ensures) ∙ sym c.fits.ensures ∙ c.if-fits.true in
-    c.candidate-x.ensures ∙ snap_hit a.pool.now a.lo a.hi a.n d l.invariant.4 l.side (omega arith) f ∙ sym l.invariant.5
+    let f = ap (fits_of c.args.pool.now c.args.lo c.args.hi) (sym c.candidate-x.ensures) ∙ sym c.fits.ensures ∙ c.if-fits.true in
+    c.candidate-x.ensures ∙ snap_hit c.args.pool.now c.args.lo c.args.hi c.args.n d l.invariant.4 l.side (omega arith) f ∙ sym l.invariant.5

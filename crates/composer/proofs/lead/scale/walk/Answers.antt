@@ -11,11 +11,10 @@ loop-left-init c = (omega arith, omega arith, refl)
 
 pub loop-left-preserved : goal.loop-left-preserved
 loop-left-preserved c =
-    let a = c.args in
     let l = c.loop-left in
     let e = c.moved-n.ensures in
-    let m = moved_in a.up l.n l.left e (omega arith) (omega arith) (omega arith) in
-    let on = walk_turn a.pool.now a.up l.n l.left l.due (omega arith) (omega (arith, ltb-true)) e c.has.ensures in
+    let m = moved_in c.args.up l.n l.left e (omega arith) (omega arith) (omega arith) in
+    let on = walk_turn c.args.pool.now c.args.up l.n l.left l.due (omega arith) (omega (arith, ltb-true)) e c.has.ensures in
     ⊎_elim
     (λ w. (m.0, m.1, l.invariant.2 ∙ on (rw w.0.taken w.1)))
     (λ w. (m.0, m.1, l.invariant.2 ∙ on (rw w.0.left w.1)))

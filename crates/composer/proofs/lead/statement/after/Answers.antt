@@ -10,5 +10,4 @@ parts false p q = refl
 
 pub returns : goal.returns
 returns c =
-    let a = c.args in
-    rw (c.chosen-counter.ensures, c.chosen-seed.ensures) (parts a.sounds a.pushed a.before)
+    rw (c.chosen-counter.ensures, c.chosen-seed.ensures) (parts c.args.sounds c.args.pushed c.args.before)

@@ -70,7 +70,7 @@ slice_bounds-settle-end c = sym c.loop-i-2.invariant.2.written.size
 pub settle-done-requires : goal.settle-done-requires
 settle-done-requires c =
     let l = c.loop-i-2 in
-    let k = l.invariant.2.written.size in
+    let k = c.loop-i-2.invariant.2.written.size in
     (omega arith, omega arith)
 
 pub returns : goal.returns

@@ -15,19 +15,18 @@ use Rattle.composer.proofs.lead.tones.chord_tones.Goals as goal
 use Rattle.composer.proofs.lead.tones.chord_tones.Goals.{After-wide}
 
 -- the note of a turn, the root, and whether the note is kept, as the code has them
-abbrev note_in : After-wide invariant_loop decreases_loop → ℕ
+abbrev note_in : After-wide → ℕ
 note_in c = get_or c.before.before.before.before.before.before.before.before.args.notes.at c.before.before.loop.i 0
 
-abbrev root_in : After-wide invariant_loop decreases_loop → ℕ
+abbrev root_in : After-wide → ℕ
 root_in c = c.before.before.before.before.root-class.result
 
-abbrev keeps : After-wide invariant_loop decreases_loop → Bool
+abbrev keeps : After-wide → Bool
 keeps c = leb (get_or c.before.before.before.before.before.lowest-of.result (note_in c % 12) 0) c.wide.result
 
 pub loop-i-init : goal.loop-i-init
 loop-i-init c =
-    let a = c.args in
-    (omega arith, omega arith, omega arith, omega arith, λ chord e. (chosen_none (in_chord_of chord) a.notes.at, chosen_none (is_upper chord c.root_class-root.result) a.notes.at))
+    (omega arith, omega arith, omega arith, omega arith, λ chord e. (chosen_none (in_chord_of chord) c.args.notes.at, chosen_none (is_upper chord c.root_class-root.result) c.args.notes.at))
 
 pub bounds-all-i : goal.bounds-all-i
 bounds-all-i c = omega arith
@@ -59,21 +58,20 @@ loop-i-smaller c = omega arith
 pub loop-i-preserved : goal.loop-i-preserved
 loop-i-preserved c =
     let l = c.loop-i in
-    let a = c.args in
-    let all = a.notes.at in
+    let all = c.args.notes.at in
     let root = root_in (goal.at.loop-i-preserved c).After-wide in
     let x = note_in (goal.at.loop-i-preserved c).After-wide in
     let keep = keeps (goal.at.loop-i-preserved c).After-wide in
     let k : length all ≡ 20 = search rules in
     let w = c.wide.ensures in
-    let x_lt : x < 256 = omega (arith, w.0, w.1) in (
+    let x_lt : x < 256 = omega (arith, w.value, w.upper_bound) in (
       omega arith,
       omega arith,
       omega (arith, bit_few keep),
       omega (arith, bit_few (keep && is_other root x)),
       λ chord e.
           let so_far = l.invariant.4 chord e in
-          let is = ap (leb (get_or c.lowest_of-lowest.result (x % 12) 0)) w.0 ∙ ap (λ (t : List ℕ). is_tone_of t x) e ∙ tone_is chord x x_lt in (
+          let is = ap (leb (get_or c.lowest_of-lowest.result (x % 12) 0)) w.value ∙ ap (λ (t : List ℕ). is_tone_of t x) e ∙ tone_is chord x x_lt in (
             chosen_on (in_chord_of chord) all l.i l.at l.n keep (omega arith) (omega arith) is so_far.0,
             chosen_on (is_upper chord root) all l.i l.others l.m (keep && is_other root x) (omega arith) (omega arith) (ap (λ (b : Bool). b && is_other root x) is) so_far.1,
           ),
@@ -83,16 +81,15 @@ pub returns : goal.returns
 returns c =
     let l = c.loop-i in
     let lowest = c.lowest_of-lowest in
-    let a = c.args in
-    let chord = a.chord.notes in
+    let chord = c.args.chord.notes in
     let root = c.root_class-root.result in
     let w = l.invariant.4 chord lowest.ensures in
-    let e : l.i ≡ a.notes.n = omega arith in
+    let e : l.i ≡ c.args.notes.n = omega arith in
     rw (
       c.cleared-rootless.ensures,
       c.cleared-tones.ensures,
-      chosen_all (in_chord_of chord) a.notes l.i l.at l.n e w.0,
-      chosen_all (is_upper chord root) a.notes l.i l.others l.m e w.1,
-      filtered_both (in_chord_of chord) (is_other root) (listed a.notes),
+      chosen_all (in_chord_of chord) c.args.notes l.i l.at l.n e w.0,
+      chosen_all (is_upper chord root) c.args.notes l.i l.others l.m e w.1,
+      filtered_both (in_chord_of chord) (is_other root) (listed c.args.notes),
       c.root_class-root.ensures,
     )

@@ -14,6 +14,5 @@ tones_with n at = record { at = at; n = n }
 
 pub returns-else-n-lt20 : goal.returns-else-n-lt20
 returns-else-n-lt20 c =
-    let a = c.args in
-    let k : length a.at ≡ 20 = search rules in
-    ap (tones_with a.n) (sym (set_out a.at a.n 0 (omega arith)))
+    let k : length c.args.at ≡ 20 = search rules in
+    ap (tones_with c.args.n) (sym (set_out c.args.at c.args.n 0 (omega arith)))

@@ -31,15 +31,13 @@ loop-x-smaller c = omega arith
 
 pub loop-x-preserved : goal.loop-x-preserved
 loop-x-preserved c =
-    let a = c.args in
     let l = c.loop-x in
     let b = c.has-keep.result in
-    (omega arith, omega arith, omega arith, omega arith, omega (arith, bit_few b), holds_on (has_class a.pool.now) a.lo l.x l.at l.n b (omega arith) (omega arith) c.has-keep.ensures l.invariant.5)
+    (omega arith, omega arith, omega arith, omega arith, omega (arith, bit_few b), holds_on (has_class c.args.pool.now) c.args.lo l.x l.at l.n b (omega arith) (omega arith) c.has-keep.ensures l.invariant.5)
 
 pub returns : goal.returns
 unfolding scale_notes_in
 returns c =
-    let a = c.args in
     let l = c.loop-x in
-    let e : l.x ≡ a.hi + 1 = omega arith in
-    c.cleared.ensures ∙ rw (← e) (tones_written (kept (has_class a.pool.now) a.lo (l.x - a.lo)) l.at l.n l.invariant.5)
+    let e : l.x ≡ c.args.hi + 1 = omega arith in
+    c.cleared.ensures ∙ rw (← e) (tones_written (kept (has_class c.args.pool.now) c.args.lo (l.x - c.args.lo)) l.at l.n l.invariant.5)

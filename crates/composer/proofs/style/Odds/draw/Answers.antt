@@ -4,8 +4,8 @@ use Rattle.composer.proofs.style.Odds.draw.Goals as goal
 
 pub returns-in-Never : goal.returns-in-Never
 unfolding odds_of
-returns-in-Never c = rw c.enum_told-1.given.1
+returns-in-Never c = rw c.in-Never.is
 
 pub returns-in-Chance : goal.returns-in-Chance
 unfolding odds_of
-returns-in-Chance c = rw c.self-1.given.1 c.chance.ensures
+returns-in-Chance c = rw c.in-Chance.is c.chance.ensures

@@ -2,7 +2,7 @@
 use Rattle.composer.proofs.form.ends.End.plain.Goals as goal
 
 pub returns-in-Plain : goal.returns-in-Plain
-returns-in-Plain c = rw c.self-1.given.1
+returns-in-Plain c = rw c.in-Plain.is
 
 pub returns-in-Edged : goal.returns-in-Edged
-returns-in-Edged c = rw c.self-in-Edged-1.given.1
+returns-in-Edged c = rw c.in-Edged.is

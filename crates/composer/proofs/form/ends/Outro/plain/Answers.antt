@@ -2,4 +2,4 @@
 use Rattle.composer.proofs.form.ends.Outro.plain.Goals as goal
 
 pub returns-in-Ends : goal.returns-in-Ends
-returns-in-Ends c = rw (c.self-1.given.1, c.plain.ensures)
+returns-in-Ends c = rw (c.in-Ends.is, c.plain.ensures)
