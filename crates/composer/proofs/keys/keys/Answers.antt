@@ -1,6 +1,6 @@
 -- After b bars the lane is the definition's, with at most 16 notes for each; after e eighths of a bar, with at most two for each. Assumes nothing.
+use mathlib.Core.Bool.{true}
 use mathlib.Core.Path.{◌≡◌, refl}
-use mathlib.Core.Logic.{⊎_elim}
 use Prim.Native.Nat.{◌+◌, ◌-◌, ◌≤◌}
 use native.Mathlib.Omega.{arith}
 use native.Mathlib.Numerals.{add-one}
@@ -13,20 +13,20 @@ use Rattle.composer.proofs.keys.ShellLaws.{tonal_seventh_le, tonal_shell}
 use Rattle.composer.proofs.keys.StrokeLaws.{lane_of, eighth_rest, eighth_shell, eighth_single}
 use borrow.Author.Tests.{not-true, not-false}
 use Rattle.composer.proofs.keys.keys.Goals as goal
-use Rattle.composer.proofs.keys.keys.Goals.{After-chance-struck, In-loop-e}
+use Rattle.composer.proofs.keys.keys.Goals.{In-loop-e, in-Shell, in-Single}
 
 -- ---- an eighth's place in the loops
 abbrev Turn : Type 0
 Turn = In-loop-e
 
 abbrev chord_at : Turn → Chord
-chord_at t = get_or t.before.before.before.before.before.before.before.before.before.args.t2.bars t.before.before.before.before.before.loop.b past_chord
+chord_at t = get_or t.args.h.bars t.loop-b.b past_chord
 
 abbrev lane_at : Turn → KeysLane
-lane_at t = lane_of t.before.loop2.notes t.before.loop2.count t.before.loop2.stream
+lane_at t = lane_of t.loop-e.notes t.loop-e.count t.loop-e.stream
 
 -- two more notes fit
-room : (t : Turn) → t.before.loop2.count + 2 ≤ 128
+room : (t : Turn) → t.loop-e.count + 2 ≤ 128
 room t = omega arith
 
 pub loop-b-init : goal.loop-b-init
@@ -53,7 +53,7 @@ loop-e-smaller-then-not-struck c = omega arith
 pub loop-e-preserved-then-not-struck : goal.loop-e-preserved-then-not-struck
 unfolding bar_to
 loop-e-preserved-then-not-struck c =
-    let silent = eighth_rest (lane_at (goal.at.loop-e-preserved-then-not-struck c).In-loop-e) (chord_at (goal.at.loop-e-preserved-then-not-struck c).In-loop-e) c.keys_style-k.result c.density_draw-density.result.value c.loop-b.b c.loop-e.e c.args.beat_s c.chance-struck.result c.chance-struck.ensures (c.if-not-struck.true) in
+    let silent = eighth_rest (lane_at (goal.at.loop-e-preserved-then-not-struck c).In-loop-e) (chord_at (goal.at.loop-e-preserved-then-not-struck c).In-loop-e) c.keys_style-k.result c.density_draw-density.result.value c.loop-b.b c.loop-e.e c.args.beat_s c.chance-struck.result c.chance-struck.ensures (not-true _ c.if-not-struck.true) in
     (omega arith, omega arith, rw (add-one, ← c.loop-e.invariant.2) silent)
 
 pub dyad_at-dyad-requires : goal.dyad_at-dyad-requires
@@ -61,31 +61,31 @@ dyad_at-dyad-requires c =
     rw c.shell_of-shell.ensures (tonal_seventh_le c.args.h c.requires c.loop-b.b (omega arith))
 
 pub offset_bounds-notes-count : goal.offset_bounds-notes-count
-offset_bounds-notes-count c = omega (arith, room (goal.at.offset_bounds-notes-count c).After-chance-struck)
+offset_bounds-notes-count c = omega (arith, room (goal.at.offset_bounds-notes-count c).In-loop-e)
 
 pub bounds-notes-count : goal.bounds-notes-count
-bounds-notes-count c = omega (arith, room (goal.at.bounds-notes-count c).After-chance-struck)
+bounds-notes-count c = omega (arith, room (goal.at.bounds-notes-count c).In-loop-e)
 
 pub overflow_add-notes : goal.overflow_add-notes
-overflow_add-notes c = omega (arith, room (goal.at.overflow_add-notes c).After-chance-struck)
+overflow_add-notes c = omega (arith, room (goal.at.overflow_add-notes c).In-loop-e)
 
 pub offset_bounds-notes-count-in-Shell : goal.offset_bounds-notes-count-in-Shell
-offset_bounds-notes-count-in-Shell c = omega (arith, room (goal.at.offset_bounds-notes-count-in-Shell c).After-chance-struck)
+offset_bounds-notes-count-in-Shell c = omega (arith, room (goal.at.offset_bounds-notes-count-in-Shell c).In-loop-e)
 
 pub bounds-notes-count-in-Shell : goal.bounds-notes-count-in-Shell
-bounds-notes-count-in-Shell c = omega (arith, room (goal.at.bounds-notes-count-in-Shell c).After-chance-struck)
+bounds-notes-count-in-Shell c = omega (arith, room (goal.at.bounds-notes-count-in-Shell c).In-loop-e)
 
 pub overflow_add-count : goal.overflow_add-count
-overflow_add-count c = omega (arith, room (goal.at.overflow_add-count c).After-chance-struck)
+overflow_add-count c = omega (arith, room (goal.at.overflow_add-count c).In-loop-e)
 
 pub offset_bounds-notes-count-in-Single : goal.offset_bounds-notes-count-in-Single
-offset_bounds-notes-count-in-Single c = omega (arith, room (goal.at.offset_bounds-notes-count-in-Single c).After-chance-struck)
+offset_bounds-notes-count-in-Single c = omega (arith, room (goal.at.offset_bounds-notes-count-in-Single c).In-loop-e)
 
 pub bounds-notes-count-in-Single : goal.bounds-notes-count-in-Single
-bounds-notes-count-in-Single c = omega (arith, room (goal.at.bounds-notes-count-in-Single c).After-chance-struck)
+bounds-notes-count-in-Single c = omega (arith, room (goal.at.bounds-notes-count-in-Single c).In-loop-e)
 
 pub overflow_add-count-in-Single : goal.overflow_add-count-in-Single
-overflow_add-count-in-Single c = omega (arith, room (goal.at.overflow_add-count-in-Single c).After-chance-struck)
+overflow_add-count-in-Single c = omega (arith, room (goal.at.overflow_add-count-in-Single c).In-loop-e)
 
 pub overflow_step-e-in-loop-e : goal.overflow_step-e-in-loop-e
 overflow_step-e-in-loop-e c = omega arith
@@ -98,24 +98,24 @@ unfolding bar_to
 loop-e-preserved c =
     let k = c.keys_style-k.result in
     let p = c.density_draw-density.result.value in
-    let beat-s = c.args.beat_s in
-    let strikes = c.if-not-struck.false in
+    let beat_s = c.args.beat_s in
+    let strikes : c.chance-struck.result.value ≡ true = not-false _ c.if-not-struck.false in
     let e = c.loop-e.e in
     let few = c.loop-e.invariant.1 in
-    ⊎_elim
-    (λ w. (
+    elim c.match-comp.branch [
+      in-Shell w ↦ (
       omega (arith, c.loop-e-test.true),
-      omega (arith, w.7, few),
-      rw (add-one, ← c.loop-e.invariant.2, w.6, w.7, w.8)
-          (eighth_shell (lane_at (goal.at.loop-e-preserved c).In-loop-e) (chord_at (goal.at.loop-e-preserved c).In-loop-e) k p c.loop-b.b e beat-s c.chance-struck.result c.chance-struck.ensures strikes c.draw-lag.result c.draw-lag.ensures c.grid_at.result c.grid_at.ensures c.shell_of-shell.result c.shell_of-shell.ensures w.2.result w.2.ensures w.1.given.1),
-    ))
-    (λ w. (
+      omega (arith, w.count-is, few),
+      rw (add-one, ← c.loop-e.invariant.2, w.notes-is, w.count-is, w.stream-is)
+          (eighth_shell (lane_at (goal.at.loop-e-preserved c).In-loop-e) (chord_at (goal.at.loop-e-preserved c).In-loop-e) k p c.loop-b.b e beat_s c.chance-struck.result c.chance-struck.ensures strikes c.draw-lag.result c.draw-lag.ensures c.grid_at.result c.grid_at.ensures c.shell_of-shell.result c.shell_of-shell.ensures w.dyad_at-dyad.result w.dyad_at-dyad.ensures w.in-Shell.is),
+    )
+    | in-Single w ↦ (
       omega (arith, c.loop-e-test.true),
-      omega (arith, w.6, few),
-      rw (add-one, ← c.loop-e.invariant.2, w.5, w.6, w.7)
-          (eighth_single (lane_at (goal.at.loop-e-preserved c).In-loop-e) (chord_at (goal.at.loop-e-preserved c).In-loop-e) k p c.loop-b.b e beat-s c.chance-struck.result c.chance-struck.ensures strikes c.draw-lag.result c.draw-lag.ensures c.grid_at.result c.grid_at.ensures w.2.result w.2.ensures w.1.given.1),
-    ))
-    c.match-comp.branch
+      omega (arith, w.count-is, few),
+      rw (add-one, ← c.loop-e.invariant.2, w.notes-is, w.count-is, w.stream-is)
+          (eighth_single (lane_at (goal.at.loop-e-preserved c).In-loop-e) (chord_at (goal.at.loop-e-preserved c).In-loop-e) k p c.loop-b.b e beat_s c.chance-struck.result c.chance-struck.ensures strikes c.draw-lag.result c.draw-lag.ensures c.grid_at.result c.grid_at.ensures w.tone_at-tone.result w.tone_at-tone.ensures w.in-Single.is),
+    )
+    ]
 
 pub overflow_step-b : goal.overflow_step-b
 overflow_step-b c = omega arith

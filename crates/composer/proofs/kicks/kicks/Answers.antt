@@ -18,7 +18,7 @@ pub returns-then-n-le98 : goal.returns-then-n-le98
 unfolding kicks_of kicks_in
 returns-then-n-le98 c =
     let a = c.args.score in
-    rw (le-leb a.hit_count 98 c.if-n-le98.true, times_sorted (times_of (take a.hit_count a.hits)) c.heard-t.result c.sort_front.new.0 c.heard-t.ensures.value c.sort_front.ensures)
+    rw (le-leb a.hit_count 98 c.if-n-le98.true, times_sorted (times_of (take a.hit_count a.hits)) c.heard-t.result c.sort_front.new.a c.heard-t.ensures.value c.sort_front.ensures)
 
 pub returns-else-n-le98 : goal.returns-else-n-le98
 unfolding kicks_of pad

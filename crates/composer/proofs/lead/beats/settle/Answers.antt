@@ -14,4 +14,4 @@ pub returns : goal.returns
 unfolding settled
 returns c =
     let e : c.args.n ≡ min c.args.n (length c.args.a.now) = omega arith in
-    record { value = c.thinned.ensures.value ∙ ap (λ (xs : List Float). beats_of (thin_of nan xs)) (sorted_front total_le c.args.a.now c.sort_front-arg-1.sort-front.new.0 c.args.n c.args.n e c.sort_front-arg-1.sort-front.ensures); n_bound = c.thinned.ensures.n_bound }
+    record { value = c.thinned.ensures.value ∙ ap (λ (xs : List Float). beats_of (thin_of nan xs)) (sorted_front total_le c.args.a.now c.sort_front.new.a c.args.n c.args.n e c.sort_front.ensures); n_bound = c.thinned.ensures.n_bound }

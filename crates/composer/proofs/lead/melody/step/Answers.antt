@@ -5,7 +5,7 @@ use Rattle.composer.proofs.lead.melody.step.Goals as goal
 
 pub pitch_of-q-requires : goal.pitch_of-q-requires
 pitch_of-q-requires c =
-    (c.requires.sound, (c.requires.fit, rw c.role_of-c.ensures (role_quotes c.args.l c.args.p)))
+    record { sound = c.requires.sound; fit = c.requires.fit; quotable = rw c.role_of-c.ensures (role_quotes c.args.l c.args.p) }
 
 pub returns : goal.returns
 unfolding step_of

@@ -1,4 +1,5 @@
 -- Any side but 0 is above. Assumes nothing.
+use borrow.Author.Rules.{rules}
 use mathlib.Core.Path.{◌≡◌, refl}
 use Prim.Native.Nat.{ℕ, zero, suc, ◌+◌}
 use Rattle.composer.specs.Lead.Scale.{candidate_of}
@@ -12,4 +13,4 @@ pub returns-in-0 : goal.returns-in-0
 returns-in-0 c = rw c.in-0.is
 
 pub returns-in_default : goal.returns-in_default
-returns-in_default c = above _ _ _ c.in_default.rest.1
+returns-in_default c = above _ _ _ (search rules)

@@ -16,13 +16,13 @@ use Rattle.composer.proofs.lead.tones.chord_tones.Goals.{After-wide}
 
 -- the note of a turn, the root, and whether the note is kept, as the code has them
 abbrev note_in : After-wide → ℕ
-note_in c = get_or c.before.before.before.before.before.before.before.before.args.notes.at c.before.before.loop.i 0
+note_in c = get_or c.args.notes.at c.loop-i.i 0
 
 abbrev root_in : After-wide → ℕ
-root_in c = c.before.before.before.before.root-class.result
+root_in c = c.root_class-root.result
 
 abbrev keeps : After-wide → Bool
-keeps c = leb (get_or c.before.before.before.before.before.lowest-of.result (note_in c % 12) 0) c.wide.result
+keeps c = leb (get_or c.lowest_of-lowest.result (note_in c % 12) 0) c.wide.result
 
 pub loop-i-init : goal.loop-i-init
 loop-i-init c =
