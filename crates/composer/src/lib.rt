@@ -1,4 +1,6 @@
 // The composer: what the draws make of a song.
+#![tactic(auto)]
+
 pub mod band;
 pub mod bass;
 pub mod chord;

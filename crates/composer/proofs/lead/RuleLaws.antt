@@ -3,7 +3,7 @@ use mathlib.Core.Path.{◌≡◌, refl, sym, ap, ◌∙◌, subst}
 use mathlib.Core.Logic.{⊎_elim}
 use mathlib.Core.Bool.{Bool, true, false, cond, not, ◌&&◌, ◌||◌, and-true}
 use mathlib.Core.List.{List}
-use Prim.Native.Nat.{ℕ, zero, suc, ◌+◌, ◌-◌, ◌*◌, ◌≤◌, ◌<◌, min}
+use Prim.Native.Nat.{ℕ, zero, suc, ◌+◌, ◌-◌, ◌≤◌, ◌<◌, min}
 use native.Mathlib.Nat.{eq-or-lt_of_le, le_of_suc-le-suc, not-suc-le-zero}
 use native.Mathlib.Numerals.{add-one}
 use native.Mathlib.Omega.{arith}
@@ -13,7 +13,6 @@ use lib.ListN.{get_or, set, length}
 use lib.Seq.{get_or-set_same, get_or-set_other}
 use lib.Ieee.{Float, nan}
 use Rattle.laws.specs.Sums.{sum_to}
-use Rattle.laws.proofs.Lanes.{Grown}
 use Rattle.laws.proofs.Sums.{sum_within, sum_part}
 use Rattle.streams.specs.Draw.{chance_of}
 use Rattle.streams.specs.declared.stream.NoiseStream.{NoiseStream}
@@ -22,15 +21,14 @@ use Rattle.composer.specs.Harmony.{Tonal}
 use Rattle.composer.specs.Lead.{sung_of, lead_of}
 use Rattle.composer.specs.Lead.Beats.{past_beats}
 use Rattle.composer.specs.Lead.Ground.{ground_of}
-use Rattle.composer.specs.Lead.Line.{is_strong_of, place_of, heads_of, carried_of}
-use Rattle.composer.specs.Lead.Melody.{past_lead, step_of, first_sung_of, sing_of, bar_to, start_of, nothing_sung, bars_to, melody_of}
+use Rattle.composer.specs.Lead.Line.{is_strong_of, place_of, carried_of}
+use Rattle.composer.specs.Lead.Melody.{past_lead, step_of, sing_of, bar_to, start_of, nothing_sung, bars_to, melody_of}
 use Rattle.composer.specs.Lead.Rhythm.{rhythm_of}
 use Rattle.composer.specs.Lead.Role.{noted_of, quotes_of, peaks_of, leapt_of, tone_chance, chosen_of, chance_role_of, role_of}
 use Rattle.composer.specs.Lead.Rule.{rule_of, notes_of_bar, notes_before, heads_in, midi_before, tone_drawn, sung_before, song_beats, song_start, song_stream, ToldAt, LeadTold}
 use Rattle.composer.specs.Lead.Scale.{pool_of}
 use Rattle.composer.specs.Lead.Tones.{distance_of}
-use Rattle.composer.specs.Lead.Sound.{Good, Ready}
-use Rattle.composer.specs.Note.{past_note}
+use Rattle.composer.specs.Lead.Sound.{Ready}
 use Rattle.composer.specs.Style.{lead_style_of}
 use Rattle.composer.specs.declared.chord.Chord.{Chord}
 use Rattle.composer.specs.declared.harmony.Harmony.{Harmony}

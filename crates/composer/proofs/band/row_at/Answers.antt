@@ -1,5 +1,4 @@
 -- What is left to place lies in the bands from row i on, and the loop stops at the first that holds it. Assumes nothing.
-use Prim.Native.Nat.{◌-◌}
 use native.Mathlib.Omega.{arith}
 use Rattle.composer.proofs.BandLaws.{row_hit, row_miss, row_last}
 use Rattle.composer.proofs.band.row_at.Goals as goal

@@ -1,6 +1,5 @@
 -- After b turns the first b bars are played, and after i turns in a bar its first i notes. Assumes nothing.
 use mathlib.Core.Path.{◌≡◌, refl, sym, ap}
-use Prim.Native.Nat.{◌-◌}
 use native.Mathlib.Omega.{arith}
 use Rattle.composer.specs.Bass.{part_of, bars_played, no_bass, bass_of}
 use Rattle.composer.specs.Bass.Line.{bar_played}

@@ -1,6 +1,6 @@
 -- Each loop lays what its definition lays, and a bar adds at most 13 hits. Assumes nothing.
 use mathlib.Core.Path.{◌≡◌, refl, ap, ◌∙◌}
-use Prim.Native.Nat.{◌+◌, ◌-◌, ◌≤◌}
+use Prim.Native.Nat.{◌+◌, ◌≤◌}
 use native.Mathlib.Numerals.{add-one}
 use native.Mathlib.Omega.{arith}
 use Rattle.composer.specs.Drums.{no_hits, bars_to, lay_groove_of}

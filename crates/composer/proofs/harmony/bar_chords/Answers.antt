@@ -1,6 +1,5 @@
 -- Each entry is its chord's notes, over an array of none. Assumes nothing.
 use mathlib.Core.Path.{sym, ◌∙◌}
-use Prim.Native.Nat.{◌-◌}
 use native.Mathlib.Omega.{arith}
 use lib.ListN.{replicate}
 use Rattle.laws.proofs.Lists.{map_start, map_on, map_full}

@@ -1,6 +1,5 @@
 -- Each bar is its degree voiced, over an array of none. Assumes nothing.
 use mathlib.Core.Path.{sym, ◌∙◌}
-use Prim.Native.Nat.{◌-◌}
 use native.Mathlib.Omega.{arith}
 use Rattle.laws.proofs.Lists.{map_start, map_on, map_full}
 use Rattle.composer.specs.Chord.{no_chord}

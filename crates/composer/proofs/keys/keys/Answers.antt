@@ -1,7 +1,7 @@
 -- After b bars the lane is the definition's, with at most 16 notes for each; after e eighths of a bar, with at most two for each. Assumes nothing.
 use mathlib.Core.Bool.{true}
 use mathlib.Core.Path.{◌≡◌, refl}
-use Prim.Native.Nat.{◌+◌, ◌-◌, ◌≤◌}
+use Prim.Native.Nat.{◌+◌, ◌≤◌}
 use native.Mathlib.Omega.{arith}
 use native.Mathlib.Numerals.{add-one}
 use lib.ListN.{get_or}
@@ -103,18 +103,18 @@ loop-e-preserved c =
     let e = c.loop-e.e in
     let few = c.loop-e.invariant.1 in
     elim c.match-comp.branch [
-      in-Shell w ↦ (
-      omega (arith, c.loop-e-test.true),
-      omega (arith, w.count-is, few),
-      rw (add-one, ← c.loop-e.invariant.2, w.notes-is, w.count-is, w.stream-is)
-          (eighth_shell (lane_at (goal.at.loop-e-preserved c).In-loop-e) (chord_at (goal.at.loop-e-preserved c).In-loop-e) k p c.loop-b.b e beat_s c.chance-struck.result c.chance-struck.ensures strikes c.draw-lag.result c.draw-lag.ensures c.grid_at.result c.grid_at.ensures c.shell_of-shell.result c.shell_of-shell.ensures w.dyad_at-dyad.result w.dyad_at-dyad.ensures w.in-Shell.is),
-    )
-    | in-Single w ↦ (
-      omega (arith, c.loop-e-test.true),
-      omega (arith, w.count-is, few),
-      rw (add-one, ← c.loop-e.invariant.2, w.notes-is, w.count-is, w.stream-is)
-          (eighth_single (lane_at (goal.at.loop-e-preserved c).In-loop-e) (chord_at (goal.at.loop-e-preserved c).In-loop-e) k p c.loop-b.b e beat_s c.chance-struck.result c.chance-struck.ensures strikes c.draw-lag.result c.draw-lag.ensures c.grid_at.result c.grid_at.ensures w.tone_at-tone.result w.tone_at-tone.ensures w.in-Single.is),
-    )
+      | in-Shell w ↦ (
+        omega (arith, c.loop-e-test.true),
+        omega (arith, w.count-is, few),
+        rw (add-one, ← c.loop-e.invariant.2, w.notes-is, w.count-is, w.stream-is)
+            (eighth_shell (lane_at (goal.at.loop-e-preserved c).In-loop-e) (chord_at (goal.at.loop-e-preserved c).In-loop-e) k p c.loop-b.b e beat_s c.chance-struck.result c.chance-struck.ensures strikes c.draw-lag.result c.draw-lag.ensures c.grid_at.result c.grid_at.ensures c.shell_of-shell.result c.shell_of-shell.ensures w.dyad_at-dyad.result w.dyad_at-dyad.ensures w.in-Shell.is),
+      )
+      | in-Single w ↦ (
+        omega (arith, c.loop-e-test.true),
+        omega (arith, w.count-is, few),
+        rw (add-one, ← c.loop-e.invariant.2, w.notes-is, w.count-is, w.stream-is)
+            (eighth_single (lane_at (goal.at.loop-e-preserved c).In-loop-e) (chord_at (goal.at.loop-e-preserved c).In-loop-e) k p c.loop-b.b e beat_s c.chance-struck.result c.chance-struck.ensures strikes c.draw-lag.result c.draw-lag.ensures c.grid_at.result c.grid_at.ensures w.tone_at-tone.result w.tone_at-tone.ensures w.in-Single.is),
+      )
     ]
 
 pub overflow_step-b : goal.overflow_step-b

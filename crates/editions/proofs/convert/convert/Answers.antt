@@ -10,7 +10,7 @@ unfolding convert_asked
 returns-in-Refused c =
     let r = c.read-r.ensures in
     let e = rw r.value at c.in-Refused.is in
-    (rw e, (rw e, r.octets))
+    record { value = rw e; buf_after = rw e; octets = r.octets }
 
 pub returns-in-Done : goal.returns-in-Done
 unfolding convert_asked
@@ -19,4 +19,4 @@ returns-in-Done c =
     let r = c.read-r.ensures in
     let b = c.args.sheet.now in
     let done : (read_of b).outcome ≡ Outcome.Done = rw r.value at c.in-Done.is in
-    (rw (done, ← r.value) w.value, (rw (done, ← r.value) w.buf_after, r.octets))
+    record { value = rw (done, ← r.value) w.value; buf_after = rw (done, ← r.value) w.buf_after; octets = r.octets }

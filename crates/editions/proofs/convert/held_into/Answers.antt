@@ -11,7 +11,7 @@ is_own-own-requires c =
 
 pub returns-then-not-own : goal.returns-then-not-own
 returns-then-not-own c =
-    let e = held_other c.args.wanted c.args.sheet.now c.args.v (own_held c.args.v c.number-number.ensures c.compose-song.ensures c.args.sheet.now c.is_own-own.ensures ∙ c.if-not-own.true) in
+    let e = held_other c.args.wanted c.args.sheet.now c.args.v (own_held c.args.v c.number-number.ensures c.compose-song.ensures c.args.sheet.now c.is_own-own.ensures ∙ not-true _ c.if-not-own.true) in
     record { value = rw e; buf_after = rw e }
 
 pub composed_into-requires : goal.composed_into-requires
@@ -20,5 +20,5 @@ composed_into-requires c =
 
 pub returns : goal.returns
 returns c =
-    let e = held_same c.args.wanted c.args.sheet.now c.args.v (own_held c.args.v c.number-number.ensures c.compose-song.ensures c.args.sheet.now c.is_own-own.ensures ∙ c.if-not-own.false) in
+    let e = held_same c.args.wanted c.args.sheet.now c.args.v (own_held c.args.v c.number-number.ensures c.compose-song.ensures c.args.sheet.now c.is_own-own.ensures ∙ not-false _ c.if-not-own.false) in
     rw (e, ← composed_asked c.args.v c.number-number.ensures c.compose-song.ensures c.args.wanted) c.composed_into.ensures

@@ -5,16 +5,16 @@ use Rattle.halls.proofs.ListLaws.{list_outside, list_short, list_served}
 use Rattle.halls.proofs.list.hall_list.Goals as goal
 
 pub returns-then-outside : goal.returns-then-outside
-returns-then-outside c =
-    list_outside c.args.hall c.args.count c.args.buf.now (sym c.is_outside-outside.ensures ∙ c.if-outside.true)
+returns-then-outside c = let all = list_outside c.args.hall c.args.count c.args.buf.now (sym c.is_outside-outside.ensures ∙ c.if-outside.true) in
+    record { value = all.0; buf_after = all.1 }
 
 pub returns-then-buf-count : goal.returns-then-buf-count
-returns-then-buf-count c =
-    list_short c.args.hall c.args.count c.args.buf.now (sym c.is_outside-outside.ensures ∙ c.if-outside.false) (omega arith)
+returns-then-buf-count c = let all = list_short c.args.hall c.args.count c.args.buf.now (sym c.is_outside-outside.ensures ∙ c.if-outside.false) (omega arith) in
+    record { value = all.0; buf_after = all.1 }
 
 pub put_seeds-n-requires : goal.put_seeds-n-requires
 put_seeds-n-requires c = omega arith
 
 pub returns : goal.returns
-returns c =
-    list_served c.args.hall c.args.count c.args.buf.now (sym c.is_outside-outside.ensures ∙ c.if-outside.false) c.put_seeds-n.ensures
+returns c = let all = list_served c.args.hall c.args.count c.args.buf.now (sym c.is_outside-outside.ensures ∙ c.if-outside.false) c.put_seeds-n.ensures in
+    record { value = all.0; buf_after = all.1 }

@@ -2,20 +2,20 @@
 use Rattle.pages.proofs.lane.put_events.Goals as goal
 
 pub put_lead-requires : goal.put_lead-requires
-put_lead-requires c =
-    (c.requires.writable, rw c.in-Lead.is at c.requires.1)
+put_lead-requires c = let all = (c.requires.writable, rw c.in-Lead.is at c.requires.1) in
+    record { writable = all.0; in_lane = all.1.0; from_in_bounds = all.1.1 }
 
 pub put_keys-requires : goal.put_keys-requires
-put_keys-requires c =
-    (c.requires.writable, rw c.in-Keys.is at c.requires.1)
+put_keys-requires c = let all = (c.requires.writable, rw c.in-Keys.is at c.requires.1) in
+    record { writable = all.0; in_lane = all.1.0; from_in_bounds = all.1.1 }
 
 pub put_hits-requires : goal.put_hits-requires
-put_hits-requires c =
-    (c.requires.writable, rw c.in-Hits.is at c.requires.1)
+put_hits-requires c = let all = (c.requires.writable, rw c.in-Hits.is at c.requires.1) in
+    record { writable = all.0; in_lane = all.1.0; from_in_bounds = all.1.1 }
 
 pub put_bass-requires : goal.put_bass-requires
-put_bass-requires c =
-    (c.requires.writable, rw c.in-Bass.is at c.requires.1)
+put_bass-requires c = let all = (c.requires.writable, rw c.in-Bass.is at c.requires.1) in
+    record { writable = all.0; in_lane = all.1.0; from_in_bounds = all.1.1 }
 
 pub returns-in-Lead : goal.returns-in-Lead
 returns-in-Lead c =

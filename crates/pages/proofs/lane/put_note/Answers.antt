@@ -8,12 +8,10 @@ use Rattle.pages.specs.Lane.{sound_bytes, note_bytes}
 use Rattle.pages.proofs.lane.put_note.Goals as goal
 
 pub put_sound-requires : goal.put_sound-requires
-put_sound-requires c =
-    record { finite_note = c.requires.finite_note; at_in_bounds = rw c.in-One.is at c.requires.edition_in_bounds }
+put_sound-requires c = record { finite_note = c.requires.finite_note; at_in_bounds = rw c.in-One.is at c.requires.edition_in_bounds }
 
 pub put_sound-a-requires : goal.put_sound-a-requires
-put_sound-a-requires c =
-    record { finite_note = c.requires.finite_note; at_in_bounds = omega (arith, rw c.in-Two.is at c.requires.edition_in_bounds) }
+put_sound-a-requires c = record { finite_note = c.requires.finite_note; at_in_bounds = omega (arith, rw c.in-Two.is at c.requires.edition_in_bounds) }
 
 pub put_u8-requires : goal.put_u8-requires
 put_u8-requires c =

@@ -11,11 +11,11 @@ use Rattle.pages.proofs.page.page_of.Goals as goal
 
 pub returns-in_default : goal.returns-in_default
 returns-in_default c =
-    let e = sym c.plays-a.ensures ∙ c.in_default.is ∙ c.in-Refused.is in record { value = sym (ap (λ (q : PlaysAnswer). written_of (length c.args.buf.now) (page_by q c.args.s (loop_bar_of c.args.f c.args.bar) (page_hits c.args.s c.args.f c.args.bar))) e); buf_after = sym (ap (λ (q : PlaysAnswer). buffer_of c.args.buf.now (page_by q c.args.s (loop_bar_of c.args.f c.args.bar) (page_hits c.args.s c.args.f c.args.bar))) e) }
+    let e = sym c.plays-a.ensures ∙ c.in_default.is ∙ c.in-Refused.is in
+    record { value = sym (ap (λ (q : PlaysAnswer). written_of (length c.args.buf.now) (page_by q c.args.s (loop_bar_of c.args.f c.args.bar) (page_hits c.args.s c.args.f c.args.bar))) e); buf_after = sym (ap (λ (q : PlaysAnswer). buffer_of c.args.buf.now (page_by q c.args.s (loop_bar_of c.args.f c.args.bar) (page_hits c.args.s c.args.f c.args.bar))) e) }
 
 pub page_into-requires : goal.page_into-requires
-page_into-requires c =
-    (c.requires.paged, (c.requires.chorded, found_below c.args.f c.args.bar _ (sym c.plays-a.ensures ∙ c.in-Found.is)))
+page_into-requires c = record { paged = c.requires.paged; chorded = c.requires.chorded; bar_lt_bars = found_below c.args.f c.args.bar _ (sym c.plays-a.ensures ∙ c.in-Found.is) }
 
 pub returns : goal.returns
 returns c =

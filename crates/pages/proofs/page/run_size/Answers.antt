@@ -12,5 +12,4 @@ overflow_mul-result c =
     rw c.width-width.ensures (omega arith)
 
 pub returns : goal.returns
-returns c =
-    rw c.width-width.ensures (refl, width_small Edition.Two c.args.lane (c.args.run.to - c.args.run.from) (omega arith))
+returns c = rw c.width-width.ensures (record { value = refl; upper_bound = width_small Edition.Two c.args.lane (c.args.run.to - c.args.run.from) (omega arith) })

@@ -11,5 +11,4 @@ overflow_mul-result c =
     rw (c.count-n.ensures, c.width-width.ensures) (omega (arith, small))
 
 pub returns : goal.returns
-returns c =
-    rw (c.count-n.ensures, c.width-width.ensures) (refl, run_small c.args.s c.requires c.args.edition c.args.lane (count_in c.args.s c.args.lane) (omega arith))
+returns c = rw (c.count-n.ensures, c.width-width.ensures) (record { value = refl; upper_bound = run_small c.args.s c.requires c.args.edition c.args.lane (count_in c.args.s c.args.lane) (omega arith) })

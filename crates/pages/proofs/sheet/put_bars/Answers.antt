@@ -10,7 +10,7 @@ use Rattle.pages.proofs.sheet.put_bars.Goals as goal
 
 pub loop-b-init : goal.loop-b-init
 loop-b-init c =
-    let most : length c.args.f.plays ≡ 64 = simp length-map at c.well-formed.1.1.0.1.1.1.1.1.1.0.1.0.1 in
+    let most : length c.args.f.plays ≡ 64 = simp length-map at c.well_formed.1.1.0.1.1.1.1.1.1.0.1.0.1 in
     (omega arith, most, refl, wrote_none c.args.buf.now c.args.at (omega arith))
 
 pub offset_bounds-plays-b : goal.offset_bounds-plays-b

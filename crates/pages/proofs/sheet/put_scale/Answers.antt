@@ -29,7 +29,7 @@ pub returns : goal.returns
 unfolding field
 returns c =
     let a = c.args.scale in
-    let good = c.well-formed.1.1.0 in
+    let good = c.well_formed.1.1.0 in
     let k : length a.pcs ≡ 6 = search rules in
     let e = length-take-le a.n a.pcs (omega arith) in
     wrote_as (omega arith) (rw e) (wrote_then c.put_head-a.ensures c.put_bytes.ensures)

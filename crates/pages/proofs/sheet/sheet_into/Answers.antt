@@ -16,11 +16,13 @@ six_at d = search rules
 -- `good` says of each parameter what its type does: here, how long an array in it is
 pub returns-then-buf-size : goal.returns-then-buf-size
 returns-then-buf-size c =
-    let eight : length c.args.s.bar_chords ≡ 8 = simp length-map at c.well-formed.1.1.0.1.1.1.1.0.1.0.1 in
+    let eight : length c.args.s.bar_chords ≡ 8 = simp length-map at c.well_formed.1.1.0.1.1.1.1.0.1.0.1 in
     let six = six_at (goal.at.returns-then-buf-size c).Start in
-    let most : length c.args.f.plays ≡ 64 = simp length-map at c.well-formed.1.1.1.1.0.1.1.1.1.1.1.0.1.0.1 in
+    let most : length c.args.f.plays ≡ 64 = simp length-map at c.well_formed.1.1.1.1.0.1.1.1.1.1.1.0.1.0.1 in
     let size = sheet_length c.args.edition c.args.seed c.args.s c.args.scale c.args.f c.requires.writable.lanes (chords_length c.args.s.bar_chords eight c.requires.chorded) (omega arith) (omega arith) in
-    refused c.args.buf.now (sheet_bytes c.args.edition c.args.seed c.args.s c.args.scale c.args.f) (omega arith)
+    let all = refused c.args.buf.now (sheet_bytes c.args.edition c.args.seed c.args.s c.args.scale c.args.f) (omega arith) in
+    record { value = all.0; buf_after = all.1 }
 
 pub returns : goal.returns
-returns c = served c.put_sheet-n.ensures
+returns c = let all = served c.put_sheet-n.ensures in
+    record { value = all.0; buf_after = all.1 }

@@ -102,7 +102,8 @@ keys_at-keys-requires c =
 pub hits_at-hits-requires : goal.hits_at-hits-requires
 unfolding score_in
 hits_at-hits-requires c =
-    let b = c.args.bytes.now in record { n_in_bounds = (omega (arith, body (goal.at.hits_at-hits-requires c).Start 6 (omega arith), size (goal.at.hits_at-hits-requires c).Start 6 (omega arith), (held (goal.at.hits_at-hits-requires c).Start).hits), omega (arith, size (goal.at.hits_at-hits-requires c).Start 6 (omega arith), (held (goal.at.hits_at-hits-requires c).Start).hits_few)); n_value = both_are (λ a n. hits_pass b a (n / 10)) (body (goal.at.hits_at-hits-requires c).Start 6 (omega arith)) (size (goal.at.hits_at-hits-requires c).Start 6 (omega arith)) ∙ hits_within_lem b (body_at b 6) 98 (size_at b 6 / 10) (held (goal.at.hits_at-hits-requires c).Start).hits_few ∙ (told (goal.at.hits_at-hits-requires c).Start).hits }
+    let b = c.args.bytes.now in
+    record { n_in_bounds = (omega (arith, body (goal.at.hits_at-hits-requires c).Start 6 (omega arith), size (goal.at.hits_at-hits-requires c).Start 6 (omega arith), (held (goal.at.hits_at-hits-requires c).Start).hits), omega (arith, size (goal.at.hits_at-hits-requires c).Start 6 (omega arith), (held (goal.at.hits_at-hits-requires c).Start).hits_few)); n_value = both_are (λ a n. hits_pass b a (n / 10)) (body (goal.at.hits_at-hits-requires c).Start 6 (omega arith)) (size (goal.at.hits_at-hits-requires c).Start 6 (omega arith)) ∙ hits_within_lem b (body_at b 6) 98 (size_at b 6 / 10) (held (goal.at.hits_at-hits-requires c).Start).hits_few ∙ (told (goal.at.hits_at-hits-requires c).Start).hits }
 
 pub bass_at-bass-requires : goal.bass_at-bass-requires
 unfolding score_in

@@ -28,7 +28,7 @@ u64_at-seed-requires c = omega (arith, body (goal.at.u64_at-seed-requires c).Sta
 
 pub score_in-score-requires : goal.score_in-score-requires
 unfolding song_in
-score_in-score-requires c = (c.requires.l_value, (held (goal.at.score_in-score-requires c).Start, (within_told (song_in c.args.bytes.now) c.requires.bytes_value).0))
+score_in-score-requires c = record { l_value = c.requires.l_value; roomy = held (goal.at.score_in-score-requires c).Start; bytes_value = (within_told (song_in c.args.bytes.now) c.requires.bytes_value).0 }
 
 pub scale_at-scale-requires : goal.scale_at-scale-requires
 scale_at-scale-requires c = record { n_in_bounds = omega (arith, body (goal.at.scale_at-scale-requires c).Start 3 (omega arith), size (goal.at.scale_at-scale-requires c).Start 3 (omega arith), (held (goal.at.scale_at-scale-requires c).Start).scale); n_bound = omega (arith, size (goal.at.scale_at-scale-requires c).Start 3 (omega arith), (held (goal.at.scale_at-scale-requires c).Start).scale_few) }

@@ -5,4 +5,4 @@ use Rattle.pages.proofs.FiniteLaws.{finite_is}
 use Rattle.reader.proofs.within.is_finite.Goals as goal
 
 pub returns : goal.returns
-returns c = rw c.bits_of-n.ensures (finite_is c.args.x (subst T (sym c.well-formed.0.1) tt))
+returns c = rw c.bits_of-n.ensures (finite_is c.args.x (subst T (sym c.well_formed.0.1) tt))

@@ -15,7 +15,7 @@ pub returns-in-Refused : goal.returns-in-Refused
 unfolding reread_asked
 returns-in-Refused c =
     let e = sym c.outcome_of-outcome.ensures ∙ c.in-Refused.is in
-    (rw e, (rw e, octets (goal.at.returns-in-Refused c).After-shared_slice_known-1))
+    record { value = rw e; buf_after = rw e; octets = octets (goal.at.returns-in-Refused c).After-shared_slice_known-1 }
 
 pub returns-in-Done : goal.returns-in-Done
 returns-in-Done c =
@@ -23,4 +23,4 @@ returns-in-Done c =
     let done : (read_of b).outcome ≡ Outcome.Done = sym c.outcome_of-outcome.ensures ∙ c.in-Done.is in
     let e = reread_done b (octets (goal.at.returns-in-Done c).After-shared_slice_known-1) done in
     let w = c.bytes_into.ensures in
-    (rw e w.value, (rw e w.buf_after, octets (goal.at.returns-in-Done c).After-shared_slice_known-1))
+    record { value = rw e w.value; buf_after = rw e w.buf_after; octets = octets (goal.at.returns-in-Done c).After-shared_slice_known-1 }

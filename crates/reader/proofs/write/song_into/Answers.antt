@@ -9,7 +9,7 @@ use Rattle.reader.proofs.write.song_into.Goals as goal
 use Rattle.reader.proofs.write.song_into.Goals.{Start}
 
 shaped : (d : Start) → Shaped d.args.v
-shaped d = (song_typed d.args.v _ d.well-formed.0).shape
+shaped d = (song_typed d.args.v _ d.well_formed.0).shape
 
 can_write : (d : Start) → Writable d.args.v.score
 can_write d =
@@ -24,4 +24,4 @@ few d =
     ((scale_told v.scale w.1).1, (song_bars v.form f.0 f.1 f.2).most)
 
 pub sheet_into-requires : goal.sheet_into-requires
-sheet_into-requires c = (can_write (goal.at.sheet_into-requires c).Start, ((shaped (goal.at.sheet_into-requires c).Start).chords.each, few (goal.at.sheet_into-requires c).Start))
+sheet_into-requires c = record { writable = can_write (goal.at.sheet_into-requires c).Start; chorded = (shaped (goal.at.sheet_into-requires c).Start).chords.each; n_bound = few (goal.at.sheet_into-requires c).Start }

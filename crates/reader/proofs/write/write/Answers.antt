@@ -10,7 +10,7 @@ use Rattle.reader.proofs.write.write.Goals as goal
 use Rattle.reader.proofs.write.write.Goals.{Start}
 
 typed : (d : Start) → Typed d.args.v
-typed d = song_typed d.args.v _ d.well-formed.0
+typed d = song_typed d.args.v _ d.well_formed.0
 
 pub returns-then-not-within-cleared : goal.returns-then-not-within-cleared
 returns-then-not-within-cleared c =
@@ -18,7 +18,7 @@ returns-then-not-within-cleared c =
     let w = c.is_within-within in
     let z = c.is_cleared-cleared in
     let e : valid v ≡ false = tests_valid v w.ensures z.ensures (not-true (w.result && z.result) c.if-not-within-cleared.true) in
-    rw (asked_other v e) (refl, (refl, typed (goal.at.returns-then-not-within-cleared c).Start))
+    rw (asked_other v e) (record { value = refl; buf_after = refl; typed = typed (goal.at.returns-then-not-within-cleared c).Start })
 
 pub song_into-requires : goal.song_into-requires
 song_into-requires c =
@@ -33,4 +33,4 @@ returns c =
     let z = c.is_cleared-cleared in
     let e : valid v ≡ true = tests_valid v w.ensures z.ensures (not-false (w.result && z.result) c.if-not-within-cleared.false) in
     let s = c.song_into.ensures in
-    rw (asked_valid v e) (s.value, (s.buf_after, typed (goal.at.returns c).Start))
+    rw (asked_valid v e) (record { value = s.value; buf_after = s.buf_after; typed = typed (goal.at.returns c).Start })

@@ -1,6 +1,5 @@
 -- After i turns the first i later steps are drawn, and at most i + 1 sound. Assumes nothing.
 use mathlib.Core.Path.{◌≡◌, refl, sym}
-use Prim.Native.Nat.{◌-◌}
 use native.Mathlib.Omega.{arith}
 use Rattle.composer.specs.Bass.Rhythm.{steps_to, bass_rhythm_of}
 use Rattle.composer.specs.declared.bass.rhythm.Steps.{Steps}

@@ -1,6 +1,5 @@
 -- After b turns the first b bars have their rhythms. Assumes nothing.
 use mathlib.Core.Path.{◌≡◌, refl, sym}
-use Prim.Native.Nat.{◌-◌}
 use native.Mathlib.Numerals.{add-one}
 use native.Mathlib.Omega.{arith}
 use Rattle.composer.specs.Bass.Rhythm.{one_rhythm_of, rhythms_to, bass_rhythms_of}

@@ -1,6 +1,5 @@
 -- What is left to try from step i on is the answer, and the loop stops at the first that comes. Assumes nothing.
 use mathlib.Core.Path.{refl, sym, ap, ◌∙◌}
-use Prim.Native.Nat.{◌-◌}
 use native.Mathlib.Omega.{arith}
 use Rattle.composer.specs.Bass.Rhythm.{root_step_of}
 use Rattle.composer.proofs.bass.RhythmLaws.{root_hit, root_miss, root_last}

@@ -1,7 +1,6 @@
 -- The test is that of the definition, and each call is its definition. Assumes nothing.
 use mathlib.Core.Path.{sym, ◌∙◌}
 use native.Mathlib.Omega.{arith}
-use borrow.Author.Tests.{not-true, not-false}
 use Rattle.composer.specs.Form.Ask.{beatless_form, beatless_of}
 use Rattle.composer.proofs.form.AskLaws.{sound_is}
 use Rattle.composer.proofs.form.ask.beatless.Goals as goal

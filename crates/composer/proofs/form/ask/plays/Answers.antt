@@ -1,7 +1,7 @@
 -- The two tests are those of the definition, in its order. Assumes nothing.
 use mathlib.Core.Path.{sym, ◌∙◌}
 use native.Mathlib.Omega.{arith}
-use borrow.Author.Tests.{not-true, not-false, le-leb, lt-leb}
+use borrow.Author.Tests.{le-leb, lt-leb}
 use Rattle.composer.specs.Form.Ask.{plays_of}
 use Rattle.composer.proofs.form.AskLaws.{sound_bars}
 use Rattle.composer.proofs.form.ask.plays.Goals as goal

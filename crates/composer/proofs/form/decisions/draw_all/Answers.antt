@@ -1,6 +1,6 @@
 -- After i turns the stream has made i draws, and they stand in the first i places. Assumes nothing.
 use mathlib.Core.Path.{◌≡◌, sym, ap, ◌∙◌}
-use Prim.Native.Nat.{◌+◌, ◌-◌}
+use Prim.Native.Nat.{◌+◌}
 use native.Mathlib.Omega.{arith}
 use lib.Ieee.{binary32, of_bits}
 use Rattle.laws.specs.Lists.{list_to}

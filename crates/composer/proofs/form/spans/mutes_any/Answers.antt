@@ -1,6 +1,5 @@
 -- After b turns the first b bars are tested. Assumes nothing.
 use mathlib.Core.Path.{◌≡◌, sym}
-use Prim.Native.Nat.{◌-◌}
 use native.Mathlib.Omega.{arith}
 use Rattle.laws.proofs.Lists.{any_none, any_on}
 use Rattle.composer.specs.Form.Plays.{silent}

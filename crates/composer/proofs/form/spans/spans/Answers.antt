@@ -1,6 +1,5 @@
 -- After i turns the forms of the first i seeds are tested. Assumes nothing.
 use mathlib.Core.Path.{◌≡◌, refl, sym}
-use Prim.Native.Nat.{◌-◌}
 use native.Mathlib.Omega.{arith}
 use lib.ListN.{length}
 use Rattle.laws.proofs.Lists.{any_none, any_on, any_all}

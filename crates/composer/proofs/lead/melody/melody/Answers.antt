@@ -1,6 +1,5 @@
 -- After k turns k bars are sung, and after i more turns i notes of the next; what the turns ask is what a good melody so far gives. Assumes nothing.
 use mathlib.Core.Path.{◌≡◌, refl, sym, ◌∙◌}
-use Prim.Native.Nat.{◌-◌}
 use native.Mathlib.Omega.{arith}
 use lib.ListN.{get_or, replicate}
 use Rattle.composer.specs.Chord.{past_chord}

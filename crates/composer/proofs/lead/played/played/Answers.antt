@@ -1,6 +1,5 @@
 -- After i turns i notes are played. Assumes nothing.
 use mathlib.Core.Path.{refl}
-use Prim.Native.Nat.{◌-◌}
 use native.Mathlib.Omega.{arith}
 use Rattle.composer.specs.Lead.Played.{play_to}
 use Rattle.composer.proofs.lead.PlayedLaws.{lane_more, played_all}

@@ -1,6 +1,6 @@
 -- After k turns the first k bars are drawn, then answered, each of at most seven beats. Assumes nothing.
 use mathlib.Core.Path.{◌≡◌, refl, ap, ◌∙◌}
-use Prim.Native.Nat.{◌+◌, ◌-◌}
+use Prim.Native.Nat.{◌+◌}
 use native.Mathlib.Numerals.{add-one}
 use native.Mathlib.Omega.{arith}
 use lib.ListN.{set}
@@ -30,8 +30,7 @@ loop-k-smaller c = omega arith
 pub loop-k-preserved : goal.loop-k-preserved
 unfolding state_to
 loop-k-preserved c =
-    let l = c.loop-k in
-    (
+    let l = c.loop-k in (
       omega arith,
       set_short l.bars l.k c.statement_bar-d.result.beats c.statement_bar-d.ensures.n_bound l.invariant.1,
       rw add-one (state_on c.args.style (whole l.bars l.stream) (state_to c.args.style c.args.s l.k) l.k c.statement_bar-d.result l.invariant.2 c.statement_bar-d.ensures.value),
@@ -109,8 +108,7 @@ loop-k-2-smaller c = omega arith
 pub loop-k-2-preserved : goal.loop-k-2-preserved
 unfolding reply_to
 loop-k-2-preserved c =
-    let l = c.loop-k-2 in
-    (
+    let l = c.loop-k-2 in (
       omega arith,
       set_short l.bars (4 + l.k) c.answer_bar-d.result.beats c.answer_bar-d.ensures.n_bound l.invariant.1,
       rw add-one (reply_on (whole l.bars l.stream) (reply_to (whole (set (set c.loop-k.bars 0 c.spared-first.result) 2 c.spared-third.result) c.loop-k.stream) l.k) l.k c.answer_bar-d.result l.invariant.2 c.answer_bar-d.ensures.value),

@@ -16,8 +16,8 @@ loop-left-preserved c =
     let m = moved_in c.args.up l.n l.left e (omega arith) (omega arith) (omega arith) in
     let on = walk_turn c.args.pool.now c.args.up l.n l.left l.due (omega arith) (omega (arith, ltb-true)) e c.has.ensures in
     elim c.if-has.branch [
-      then-has w ↦ (m.0, m.1, l.invariant.2 ∙ on (rw w.if-has.true w.due-is))
-    | else-has w ↦ (m.0, m.1, l.invariant.2 ∙ on (rw w.if-has.false w.due-is))
+      | then-has w ↦ (m.0, m.1, l.invariant.2 ∙ on (rw w.if-has.true w.due-is))
+      | else-has w ↦ (m.0, m.1, l.invariant.2 ∙ on (rw w.if-has.false w.due-is))
     ]
 
 pub returns-else-due-gt0 : goal.returns-else-due-gt0

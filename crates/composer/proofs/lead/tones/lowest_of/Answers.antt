@@ -1,6 +1,6 @@
 -- The table so far, lowered by what is left, is the whole chord's. Assumes nothing.
 use mathlib.Core.Path.{refl, sym, ap, ◌∙◌}
-use Prim.Native.Nat.{ℕ, ◌+◌, ◌-◌, ◌%◌}
+use Prim.Native.Nat.{ℕ, ◌+◌, ◌%◌}
 use native.Mathlib.Omega.{arith}
 use lib.ListN.{drop, get_or, set}
 use Rattle.composer.specs.Lead.Tones.{lowest_from}
