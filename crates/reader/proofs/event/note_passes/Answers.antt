@@ -42,17 +42,18 @@ joined_six d =
     let m = d.byte_in-midi.result in
     let bytes = d.args.bytes.now in
     let at = d.args.at in
-    let p : d.if-bar-lt8.t-12 ≡ (ltb b 8 && leb m 127) =
-        elim d.if-bar-lt8.branch [
-          then-bar-lt8 w ↦ and_then _ (lt-ltb b 8 w.if-bar-lt8.true) w.t-12-is
-        | else-bar-lt8 w ↦ and_else _ (le-ltb b 8 w.if-bar-lt8.false) (w.t-12-is ∙ le-ltb b 8 w.if-bar-lt8.false)
-        ] in
     let q : d.if-midi-le127.value ≡ (ltb b 8 && leb m 127 && role_within d.args.edition d.args.leads (role_at d.args.edition d.args.leads bytes (at + 14))) =
         elim d.if-midi-le127.branch [
           then-midi-le127 w ↦ and_then _ (both_hold b m w.if-midi-le127.true) (w.value-is ∙ w.role_passes.ensures)
         | else-midi-le127 w ↦
           let f = one_fails b m w.if-midi-le127.either in
-          and_else _ f (w.value-is ∙ p ∙ f)
+          and_else _ f
+          (w.value-is
+          ∙ elim d.if-bar-lt8.branch [
+              then-bar-lt8 v ↦ and_then _ (lt-ltb b 8 v.if-bar-lt8.true) cc
+            | else-bar-lt8 v ↦ and_else _ (le-ltb b 8 v.if-bar-lt8.false) cc
+            ]
+          ∙ f)
         ] in
     let r : d.if-role_passes.value ≡ (d.if-midi-le127.value && finite (f32_at bytes (at + 1))) =
         elim d.if-role_passes.branch [
