@@ -1,9 +1,8 @@
 /* example PAPER [STYLE [BAR [ROOM]]]: prints the length of a song's sheet, the page of one of its bars in hex, and why
  * each lead note on that page is what it is.
  *
- * PAPER is the paper number, STYLE 0 or 1, and 1 where it is left out, BAR the song bar, and 0 where it is left out.
- * ROOM is the length of the page's buffer, at most and else the longest page's. Ends with status 1 where a call is
- * refused. */
+ * PAPER is the paper number, STYLE 0 or 1, BAR the song bar, each 0 where it is left out. ROOM is the length of the
+ * page's buffer, at most and else the longest page's. Ends with status 1 where a call is refused. */
 #include <stdio.h>
 
 #include "seqochanu.h"
@@ -47,7 +46,7 @@ int main(int argc, char **argv) {
         return 2;
     }
     paper = number(argc, argv, 1, UINT64_MAX, 0);
-    style = (uint8_t)number(argc, argv, 2, UINT8_MAX, DEFAULT_STYLE);
+    style = (uint8_t)number(argc, argv, 2, UINT8_MAX, 0);
     bar = number(argc, argv, 3, UINT64_MAX, 0);
     room = (size_t)number(argc, argv, 4, sizeof page, sizeof page);
 

@@ -1,7 +1,7 @@
 /* reread [-1] PAPER [STYLE [LENGTH [ROOM [PLACE BYTE]]]]: reads the sheet of a song back, and prints which edition it
  * is of and which fields it has.
  *
- * PAPER is the paper number, STYLE 0 or 1, and 1 where it is left out. With -1 the sheet is first turned into one of
+ * PAPER is the paper number, STYLE 0 or 1, and 0 where it is left out. With -1 the sheet is first turned into one of
  * edition 1. The other words spoil the sheet before it is read: LENGTH is how many of its bytes are read, at most the
  * longest sheet's, with zeros behind its own, and BYTE is put at PLACE, counted from 0. ROOM is the length of the
  * buffer for what was read, at most the longest sheet's, which it is where ROOM is left out. Ends with status 1 where
@@ -53,7 +53,7 @@ int main(int argc, char **argv) {
         return 2;
     }
     paper = number(argc, argv, 1, UINT64_MAX, 0);
-    style = (uint8_t)number(argc, argv, 2, UINT8_MAX, DEFAULT_STYLE);
+    style = (uint8_t)number(argc, argv, 2, UINT8_MAX, 0);
     length = (size_t)number(argc, argv, 3, sizeof song, 0);
     room = (size_t)number(argc, argv, 4, sizeof song, sizeof song);
     place = number(argc, argv, 5, sizeof song - 1, 0);

@@ -1,13 +1,9 @@
-/* What the programs here share: numbers from the words they are given, the style where none is given, and words for
- * what is refused. A program defines PROGRAM, its own name, before it includes this; what it says on standard error
- * starts with it. */
+/* What the programs here share: numbers from the words they are given, and words for what is refused. A program
+ * defines PROGRAM, its own name, before it includes this; what it says on standard error starts with it. */
 #include <errno.h>
 #include <stdint.h>
 #include <stdio.h>
 #include <stdlib.h>
-
-/* Sleep, as in a record to the program `paper`: there and here a paper number with no style is the same piece. */
-#define DEFAULT_STYLE 1
 
 static const char *refusal(int64_t answer) {
     switch (answer) {

@@ -13,7 +13,7 @@ make_ready() {
         echo "${0##*/}: there is no clang, whose libFuzzer is needed" >&2
         exit 2
     fi
-    rt staticlib seqochanu >/dev/null
+    tools/build seqochanu >/dev/null
 }
 
 # write_starts ROOM FOLDER: writes the inputs to start from into FOLDER, by a program that it builds in ROOM.

@@ -1,4 +1,6 @@
 // The search for a seed for a lesson.
+#![tactic(auto)]
+
 pub mod answer;
 pub mod lesson;
 pub mod wishes;

@@ -23,7 +23,6 @@ use Rattle.composer.specs.declared.score.Score.{Score}
 use Rattle.pages.specs.Bar.{shown}
 use Rattle.pages.specs.Bytes.{be64, f32_bytes, field}
 use Rattle.pages.specs.Demand3.{body_in, body_of, plays_in}
-use Rattle.pages.specs.Edition.{edition_field}
 use Rattle.pages.specs.Lane.{hit_bytes, events_of, drawn_for}
 use Rattle.pages.specs.Page.{page_bytes}
 use Rattle.pages.specs.Sheet.{song_bytes, lanes_bytes, plays_bytes, form_bytes, sheet_bytes}

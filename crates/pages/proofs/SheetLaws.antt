@@ -25,8 +25,8 @@ use Rattle.composer.specs.declared.style.Style.{Style}
 use Rattle.composer.proofs.ComposeLaws.{composed_done, song_promise}
 use Rattle.composer.proofs.form.Arranged.{arranged_promise}
 use Rattle.pages.specs.Answer.{Writes, bytes_of}
-use Rattle.pages.specs.Edition.{note_width, edition_field, edition_size, sheet_most}
-use Rattle.pages.specs.Lane.{tag_of, width_of, count_in, lane_size, events_of}
+use Rattle.pages.specs.Edition.{note_width, edition_size, sheet_most}
+use Rattle.pages.specs.Lane.{tag_of, width_of, lane_size, events_of}
 use Rattle.pages.specs.Sheet.{song_bytes, lane_field, lanes_size, lanes_bytes, form_bytes, sheet_size, sheet_bytes, sheet_in, sheet_asked}
 use Rattle.pages.specs.Writable.{SizedLanes}
 use Rattle.pages.specs.declared.edition.Edition.{Edition}

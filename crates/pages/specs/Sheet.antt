@@ -1,5 +1,5 @@
 -- The sheet: a whole song in ten fields, and before them the edition's. Definitions only.
-use Rattle.std.specs.Prelude.{cond, List, [], ◌∷◌, ◌++◌, map, ℕ, ◌+◌, ◌*◌, take}
+use Rattle.std.specs.Prelude.{cond, List, [], ◌∷◌, ◌++◌, map, ℕ, ◌+◌, take}
 use Rattle.laws.specs.Lists.{joined}
 use Rattle.composer.specs.Compose.{compose_of}
 use Rattle.composer.specs.Form.{intro_bars_of, outro_bars_of}

@@ -1,4 +1,6 @@
 // The sheet and the bar page: a song and its form in bytes. Numbers in bytes, and what a program replies.
+#![tactic(auto)]
+
 pub mod answer;
 pub mod bar;
 pub mod edition;

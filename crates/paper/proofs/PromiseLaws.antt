@@ -1,4 +1,4 @@
--- What each record means: nine bytes by themselves, eight as the nine with style 1. Assumes nothing.
+-- What each record means: nine bytes by themselves, eight as the nine with style 0. Assumes nothing.
 use mathlib.Core.Path.{◌≡◌, sym, ap, ◌∙◌}
 use mathlib.Core.List.{List, [], ◌∷◌, ◌++◌}
 use Prim.Native.Nat.{ℕ, ◌≤◌, ◌<◌}
@@ -31,7 +31,7 @@ module _ (input : List ℕ) where
   unfolding paper_asked
   nine_asked e = rw e (ap (λ (style : ℕ). sheet_asked style (be64_at input 0)) (get_d_any input 8 default_style 0 (omega arith)))
 
-  eight_asked : length input ≡ 8 → paper_asked input ≡ sheet_asked 1 (be64_at input 0)
+  eight_asked : length input ≡ 8 → paper_asked input ≡ sheet_asked 0 (be64_at input 0)
   unfolding paper_asked
   eight_asked e = rw e (ap (λ (style : ℕ). sheet_asked style (be64_at input 0)) (get_or-eq_default input default_style (omega arith)))
 
@@ -39,16 +39,16 @@ module _ (input : List ℕ) where
   unfolding paper_asked
   other_asked a b = rw (ne_eqb (length input) 8 a, ne_eqb (length input) 9 b)
 
--- with style 1 behind it a seed's record names that style and that seed
-with_style : (input : List ℕ) → length input ≡ 8 → paper_asked (input ++ (1 ∷ [])) ≡ sheet_asked 1 (be64_at input 0)
+-- with style 0 behind it a seed's record names that style and that seed
+with_style : (input : List ℕ) → length input ≡ 8 → paper_asked (input ++ (0 ∷ [])) ≡ sheet_asked 0 (be64_at input 0)
 with_style input e =
-    let last : byte_at (input ++ (1 ∷ [])) 8 ≡ 1 = rw (← e, ← add-zero (length input)) (get_or-append-add input (1 ∷ []) 0 0) in
-    nine_asked (input ++ (1 ∷ [])) (omega (arith, length-append input (1 ∷ []))) ∙ rw (last, be64_front input (1 ∷ []) (omega arith))
+    let last : byte_at (input ++ (0 ∷ [])) 8 ≡ 0 = rw (← e, ← add-zero (length input)) (get_or-append-add input (0 ∷ []) 0 0) in
+    nine_asked (input ++ (0 ∷ [])) (omega (arith, length-append input (0 ∷ []))) ∙ rw (last, be64_front input (0 ∷ []) (omega arith))
 
 pub paper_promise : (input : List ℕ) → PaperPromise input
 paper_promise input = record {
   nine = nine_asked input;
   eight = λ e. eight_asked input e ∙ sym (with_style input e);
-  sleeps = λ e. eight_asked input e ∙ rw (seed_sheet Edition.Two Style.Sleep (be64_at input 0));
+  served = λ e. eight_asked input e ∙ rw (seed_sheet Edition.Two Style.Hiphop (be64_at input 0));
   other = other_asked input;
 }

@@ -5,9 +5,9 @@ use Rattle.pages.specs.Answer.{Asked, Declines}
 use Rattle.pages.specs.Bytes.{be64_at}
 use Rattle.pages.specs.Sheet.{sheet_asked}
 
--- the style of a record that names none: sleep
+-- the style of a record that names none
 abbrev pub default_style : ℕ
-default_style = 1
+default_style = 0
 
 abbrev pub is_record : List ℕ → Bool
 is_record input = eqb (length input) 8 || eqb (length input) 9

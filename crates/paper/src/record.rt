@@ -11,8 +11,8 @@ use pages::get::u64_at;
 use pages::reply::{put_refusal, reply};
 use pages::sheet::sheet;
 
-// The style of a record that names none: sleep.
-const DEFAULT_STYLE: u8 = 1;
+// The style of a record that names none.
+const DEFAULT_STYLE: u8 = 0;
 
 // 8 seed bytes, or 9 with the style's.
 fn is_record(input: &[u8]) -> bool

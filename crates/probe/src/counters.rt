@@ -28,8 +28,7 @@ fn put_counters(c: Counters, out: &mut [u64]) -> i64
 // Writes the counters of the song's streams, harmony, tempo, lead, keys, drums, bass, voice, into the
 // first seven places of `out` and answers 7; what lies beyond stays. An unknown style is -1, then fewer
 // than seven places -2; neither writes anything.
-#[unsafe(no_mangle)]
-pub extern "C" fn probe_counters(style: u8, seed: u64, out: &mut [u64]) -> i64
+pub fn probe_counters(style: u8, seed: u64, out: &mut [u64]) -> i64
     ensures value { result ≡ counters_answer (compose_of style seed) (length out.old) }
     ensures out_after { out.new ≡ counters_buffer (compose_of style seed) out.old }
 {

@@ -124,8 +124,7 @@ fn score_by(words: &[u64]) -> Score
 
 // Word i of the kicks of the seed's score in place i of `out`, for each of its places. An unknown style has the score
 // of zeros, and so no kicks.
-#[unsafe(no_mangle)]
-pub extern "C" fn probe_kicks(style: u8, seed: u64, out: &mut [u64])
+pub fn probe_kicks(style: u8, seed: u64, out: &mut [u64])
     ensures { out.new ≡ list_to (kicks_word_of (kicks_of (compose_of style seed).score)) (length out.old) }
 {
     let song = compose(style, seed);
@@ -136,8 +135,7 @@ pub extern "C" fn probe_kicks(style: u8, seed: u64, out: &mut [u64])
 
 // The same of a score with other hits: `words` has their count, then two words for each of 98 hits,
 // the bits of its time, modulo 2^32, and its drum's number. What is missing is 0; a number of no drum is a kick.
-#[unsafe(no_mangle)]
-pub extern "C" fn probe_made_kicks(words: &[u64], out: &mut [u64])
+pub fn probe_made_kicks(words: &[u64], out: &mut [u64])
     ensures { out.new ≡ list_to (kicks_word_of (kicks_of (score_by words.now))) (length out.old) }
 {
     let score = score_by(words);

@@ -160,8 +160,7 @@ fn fill(song: Composed, out: &mut [u64])
 }
 
 // Word i of the song in place i of `out`, for each of its places. An unknown style has the refusal 1.
-#[unsafe(no_mangle)]
-pub extern "C" fn probe_score(style: u8, seed: u64, out: &mut [u64])
+pub fn probe_score(style: u8, seed: u64, out: &mut [u64])
     ensures { out.new ≡ list_to (word_of (compose_of style seed)) (length out.old) }
 {
     let song = compose(style, seed);
@@ -169,8 +168,7 @@ pub extern "C" fn probe_score(style: u8, seed: u64, out: &mut [u64])
 }
 
 // The same without its drums.
-#[unsafe(no_mangle)]
-pub extern "C" fn probe_unbeaten(style: u8, seed: u64, out: &mut [u64])
+pub fn probe_unbeaten(style: u8, seed: u64, out: &mut [u64])
     ensures { out.new ≡ list_to (word_of (unbeaten_song (compose_of style seed))) (length out.old) }
 {
     let song = compose(style, seed);

@@ -207,8 +207,7 @@ fn form_sum(f: Form) -> u64
 
 // The numbers on the sheet of a seed's song, but for its style and seed, summed, each f32 by its bits. An unknown
 // style has the sum 0.
-#[unsafe(no_mangle)]
-pub extern "C" fn probe_song(style: u8, seed: u64) -> u64
+pub fn probe_song(style: u8, seed: u64) -> u64
     ensures { result ≡ song_sum style seed }
 {
     let song = compose(style, seed);

@@ -1,5 +1,7 @@
 // A sheet by way of its song, for tests and measurements: it is read into a song, and the canonical writer writes that
 // song. `seqochanu_reread` answers the same, and makes no song; reading alone is there to be timed.
+#![tactic(auto)]
+
 ghost use Rattle.std.specs.Prelude.{◌≡◌, length};
 ghost use Rattle.pages.specs.Answer.{written_of, buffer_of};
 ghost use Rattle.reader.specs.Read.{read_of, reread_asked};

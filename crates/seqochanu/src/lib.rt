@@ -1,5 +1,7 @@
 // The sheet, the bar page, the hall list, sheets read back, sheets from edition to edition and seeds for lessons, for C
 // (include/seqochanu.h).
+#![tactic(auto)]
+
 ghost use Rattle.std.specs.Prelude.{◌≡◌, ◌^◌, ◌<◌, length};
 ghost use Rattle.editions.specs.Convert.{convert_asked};
 ghost use Rattle.halls.specs.List.{list_asked};

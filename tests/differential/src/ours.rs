@@ -1,4 +1,4 @@
-//! The exported functions of the crates `probe`, `roundtrip` and `seqochanu` with their own numbers for answers,
+//! The exported functions of the crates `probe_c`, `roundtrip` and `seqochanu` with their own numbers for answers,
 //! behind safe wrappers. A slice passes as a pointer and a length; no function asks more of its caller.
 
 use crate::compose::reach::form::Parts;

@@ -67,8 +67,7 @@ impl Program<'_> {
     }
 }
 
-/// An input of this length: 8 down to 0, over and over, so that its ninth byte is the number of a style, and not of the
-/// one that `paper` takes where there is none: a ninth byte that is lost shows.
+/// An input of this length: 9 down to 1, over and over, so that its ninth byte is the number of a style.
 fn input_of(len: usize) -> Vec<u8> {
-    (0..len).map(|i| (8 - i % 9) as u8).collect()
+    (0..len).map(|i| (9 - i % 9) as u8).collect()
 }

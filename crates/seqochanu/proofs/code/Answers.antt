@@ -15,4 +15,4 @@ returns-in-Bytes c =
 pub returns-in-Refused : goal.returns-in-Refused
 returns-in-Refused c =
     let r = c.refusal_code in
-    rw c.in-Refused.is (to_z-of_z w64 r.result (record { sfits = r.type-inv }) ∙ r.ensures)
+    rw c.in-Refused.is (to_z-of_z w64 r.result (record { sfits = r.type_inv }) ∙ r.ensures)

@@ -12,4 +12,4 @@ code-requires c = rw c.hall_list-w.ensures.value (list_count _ _ _)
 pub returns : goal.returns
 returns c =
     let w = c.hall_list-w.ensures in
-    record { value = to_z-of_z w64 c.code.result (record { sfits = c.code.type-inv }) ∙ c.code.ensures ∙ ap code_of w.value; buf_after = w.buf_after }
+    record { value = to_z-of_z w64 c.code.result (record { sfits = c.code.type_inv }) ∙ c.code.ensures ∙ ap code_of w.value; buf_after = w.buf_after }

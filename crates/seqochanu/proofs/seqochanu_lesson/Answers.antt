@@ -18,6 +18,6 @@ returns-in-Refused c =
     record {
       answer = l.result;
       allowed = l.ensures;
-      coded = rw e (to_z-of_z w64 r.result (record { sfits = r.type-inv }) ∙ r.ensures);
+      coded = rw e (to_z-of_z w64 r.result (record { sfits = r.type_inv }) ∙ r.ensures);
       lent = rw e;
     }

@@ -5,17 +5,14 @@ use crate::bytes::{field, sheet_of};
 use crate::edition::Edition;
 use crate::tally::Tally;
 
-/// How many seeds are tried, with no style byte and with either style's.
+/// How many seeds are tried: in style 0 by 8 bytes and by 9, and in style 1.
 const SEEDS: u64 = 200;
 
-/// The paper number of README's example and of the program's recorded input.
-const EXAMPLE: u64 = 1_234_567;
-
-/// What documents 01 and 02 have the program write for an input: 8 bytes mean style 1, by wish 8.
+/// What document 01 has the program write for an input.
 fn wanted(input: &[u8]) -> Vec<u8> {
     let (seed, style) = match input {
         [seed @ .., style] if seed.len() == 8 => (seed, *style),
-        seed => (seed, 1),
+        seed => (seed, 0),
     };
     match (seed.try_into(), style) {
         (Err(_), _) => field(0x7f, &[5]),
@@ -26,7 +23,7 @@ fn wanted(input: &[u8]) -> Vec<u8> {
 
 /// Seeds with and without a style byte.
 fn compare_seeds(tally: &mut Tally, program: &Program) {
-    for seed in (0..SEEDS).map(crate::seed_of).chain([EXAMPLE]).map(u64::to_be_bytes) {
+    for seed in (0..SEEDS).map(|i| crate::seed_of(i).to_be_bytes()) {
         for style in [&[][..], &[0], &[1]] {
             program.compare_input(tally, &[&seed[..], style].concat());
         }

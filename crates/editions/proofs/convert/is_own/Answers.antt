@@ -10,10 +10,5 @@ pub slice_bounds-same_bytes-end : goal.slice_bounds-same_bytes-end
 slice_bounds-same_bytes-end c =
     omega (arith, few (sheet_by c.args.edition c.args.seed c.args.song) c.args.room.now c.requires.song_in_bounds c.composed_into-w.ensures.value c.count-n.ensures)
 
-pub slice_bounds-same_bytes-end-2 : goal.slice_bounds-same_bytes-end-2
-slice_bounds-same_bytes-end-2 c =
-    sym (length-take-le _ _ (omega (arith, few (sheet_by c.args.edition c.args.seed c.args.song) c.args.room.now c.requires.song_in_bounds c.composed_into-arg-1.composed-into.ensures.0 c.slice_known-2-1.count.ensures)))
-
 pub returns : goal.returns
-returns c =
-    c.same_bytes.ensures ∙ ap (same_bytes c.args.sheet.now) (whole (sheet_by c.args.edition c.args.seed c.args.song) c.args.room.now c.requires.song_in_bounds c.composed_into-arg-1.composed-into.ensures.0 c.slice_known-2-1.count.ensures c.composed_into-arg-1.composed-into.ensures.1)
+returns c = ?

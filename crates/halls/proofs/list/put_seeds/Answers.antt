@@ -1,7 +1,7 @@
 -- After i turns the first i seeds are written; a turn writes one more. Assumes nothing.
 use mathlib.Core.Path.{◌≡◌, refl, sym, ap, ◌∙◌}
 use mathlib.Core.List.{◌++◌}
-use Prim.Native.Nat.{ℕ, ◌-◌, ◌*◌}
+use Prim.Native.Nat.{ℕ, ◌*◌}
 use native.Mathlib.Omega.{arith}
 use Rattle.laws.proofs.Writes.{wrote_none, wrote_then, wrote_as, wrote_length}
 use Rattle.pages.specs.Bytes.{be64}

@@ -1,6 +1,6 @@
 -- No seed before turn i fits. Assumes nothing.
 use mathlib.Core.Path.{◌≡◌, refl, sym, ◌∙◌, subst}
-use Prim.Native.Nat.{ℕ, ◌-◌}
+use Prim.Native.Nat.{ℕ}
 use native.Mathlib.Omega.{arith}
 use Rattle.lessons.specs.Inner.Search.{SuitsIn}
 use Rattle.lessons.specs.Lesson.{NoneFits}

@@ -13,15 +13,18 @@ pub part_count-requires-2 : goal.part_count-requires-2
 part_count-requires-2 c = rw c.run_in-next.ensures (record { sized_lanes = sized c.args.s c.requires.lanes_promise; in_lane = run_within c.args.s c.requires.lanes_promise Lane.Hits c.plays_drums-on_next.result c.loop_bar-looped_next.result })
 
 pub returns : goal.returns
-returns c = record { value = rw (
-        c.part_count-2.ensures.value,
-        c.part_count.ensures.value,
-        c.run_in-next.ensures,
-        c.loop_bar-looped_next.ensures.value,
-        c.plays_drums-on_next.ensures,
-        c.own_part-part.ensures,
-        c.run_in-own.ensures,
-        c.loop_bar-looped.ensures.value,
-        c.plays_drums-on.ensures,
-        runs_count c.args.s c.requires.lanes_promise c.args.f c.args.bar,
-      ); count_bound = omega (arith, c.part_count-2.ensures.upper_bound, c.part_count.ensures.upper_bound) }
+returns c = record {
+  value = rw (
+    c.part_count-2.ensures.value,
+    c.part_count.ensures.value,
+    c.run_in-next.ensures,
+    c.loop_bar-looped_next.ensures.value,
+    c.plays_drums-on_next.ensures,
+    c.own_part-part.ensures,
+    c.run_in-own.ensures,
+    c.loop_bar-looped.ensures.value,
+    c.plays_drums-on.ensures,
+    runs_count c.args.s c.requires.lanes_promise c.args.f c.args.bar,
+  );
+  count_bound = omega (arith, c.part_count-2.ensures.upper_bound, c.part_count.ensures.upper_bound);
+}

@@ -1,15 +1,14 @@
 -- Nothing is written of a hit that is not shown. Assumes nothing.
 use native.Mathlib.Omega.{arith}
-use borrow.Author.Tests.{not-true, not-false}
 use Rattle.laws.proofs.Writes.{wrote_none}
 use Rattle.pages.proofs.hits.put_shown.Goals as goal
 
 pub returns-then-not-on : goal.returns-then-not-on
 returns-then-not-on c =
-    rw (not-true c.args.on c.if-not-on.true) (wrote_none c.args.buf.now c.args.at (omega arith))
+    rw c.if-not-on.true (wrote_none c.args.buf.now c.args.at (omega arith))
 
 pub put_hit-requires : goal.put_hit-requires
-put_hit-requires c = record { finite_hit = c.requires.finite_hit; at_in_bounds = omega (arith, rw (not-false c.args.on c.if-not-on.false) at c.requires.on_in_bounds) }
+put_hit-requires c = record { finite_hit = c.requires.finite_hit; at_in_bounds = omega (arith, rw c.if-not-on.false at c.requires.on_in_bounds) }
 
 pub returns : goal.returns
-returns c = rw (not-false c.args.on c.if-not-on.false) c.put_hit.ensures
+returns c = rw c.if-not-on.false c.put_hit.ensures

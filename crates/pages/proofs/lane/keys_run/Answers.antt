@@ -1,15 +1,15 @@
 -- The first `from` notes are of earlier bars and the first `to` of no later bar; since bars never fall, there are no others. Assumes nothing.
 use mathlib.Core.Path.{◌≡◌, refl, ap, ◌∙◌}
-use mathlib.Core.Logic.{⊎_elim}
-use Prim.Native.Nat.{ℕ, ◌+◌, ◌-◌, ◌<◌}
+use Prim.Native.Nat.{ℕ, ◌+◌, ◌<◌}
 use native.Mathlib.Omega.{arith}
-use borrow.Author.Tests.{ltb-true, ltb-false}
+use borrow.Author.Tests.{ltb-true, ltb-false, lt-ltb, le-ltb}
 use lib.Dec.{ltb}
 use Rattle.laws.specs.Sorts.{count}
 use Rattle.pages.specs.Lane.{bars_of, earlier}
 use Rattle.pages.specs.declared.lane.Lane.{Lane}
 use Rattle.pages.proofs.LaneLaws.{keys_bar, before_on, before_first, before_next, before_last}
 use Rattle.pages.proofs.lane.keys_run.Goals as goal
+use Rattle.pages.proofs.lane.keys_run.Goals.{then-loop-from-test+else-keys-from, else-loop-from-test}
 
 pub loop-from-init : goal.loop-from-init
 loop-from-init c = (omega arith, refl)
@@ -29,7 +29,7 @@ loop-from-smaller c = omega (arith, ltb-true)
 pub loop-from-preserved : goal.loop-from-preserved
 loop-from-preserved c =
     let l = c.loop-from in
-    let e = ap (λ (b : ℕ). ltb b c.args.bar) (keys_bar c.args.s c.requires.lanes_promise l.from (omega (arith, ltb-true))) ∙ c.if-keys-from.true in
+    let e = ap (λ (b : ℕ). ltb b c.args.bar) (keys_bar c.args.s c.requires.lanes_promise l.from (omega (arith, ltb-true))) ∙ lt-ltb _ _ c.if-keys-from.true in
     (omega (arith, ltb-true), before_on c.args.s c.requires.lanes_promise Lane.Keys c.args.bar l.from (omega (arith, ltb-true)) l.invariant.1 e)
 
 pub loop-to-init : goal.loop-to-init
@@ -38,12 +38,12 @@ loop-to-init c =
     let s = c.args.s in
     let bar = c.args.bar in
     let first : l.from ≡ count (earlier bar) (bars_of s Lane.Keys) =
-    ⊎_elim
-    (λ w.
-    let h : l.from < s.keys_count = omega (arith, w.0.taken) in
-    before_first s c.requires.lanes_promise Lane.Keys bar l.from h l.invariant.1 (ap (λ (b : ℕ). ltb b bar) (keys_bar s c.requires.lanes_promise l.from h) ∙ w.1.left))
-    (λ w. before_last s c.requires.lanes_promise Lane.Keys bar l.from (omega (arith, w.left)) l.invariant.1)
-    c.loop-from-test.branch in
+    elim c.loop-from-test.branch [
+      | then-loop-from-test+else-keys-from w ↦
+          let h : l.from < s.keys_count = omega (arith, w.loop-from-test.true) in
+          before_first s c.requires.lanes_promise Lane.Keys bar l.from h l.invariant.1 (ap (λ (b : ℕ). ltb b bar) (keys_bar s c.requires.lanes_promise l.from h) ∙ le-ltb _ _ w.if-keys-from.false)
+      | else-loop-from-test w ↦ before_last s c.requires.lanes_promise Lane.Keys bar l.from (omega (arith, ltb-false, w.loop-from-test.false)) l.invariant.1
+    ] in
     (l.invariant.0, first, before_next s c.requires.lanes_promise Lane.Keys bar l.from l.invariant.0 l.invariant.1)
 
 pub offset_bounds-keys-to : goal.offset_bounds-keys-to
@@ -64,13 +64,13 @@ loop-to-smaller c = omega (arith, ltb-true)
 pub loop-to-preserved : goal.loop-to-preserved
 loop-to-preserved c =
     let l = c.loop-to in
-    let e = ap (λ (b : ℕ). ltb b (c.args.bar + 1)) (keys_bar c.args.s c.requires.lanes_promise l.to (omega (arith, ltb-true))) ∙ c.if-keys-to.true in
+    let e = ap (λ (b : ℕ). ltb b (c.args.bar + 1)) (keys_bar c.args.s c.requires.lanes_promise l.to (omega (arith, ltb-true))) ∙ lt-ltb _ _ c.if-keys-to.true in
     (omega (arith, ltb-true), l.invariant.1, before_on c.args.s c.requires.lanes_promise Lane.Keys (c.args.bar + 1) l.to (omega (arith, ltb-true)) l.invariant.2 e)
 
 pub returns-else-keys-to : goal.returns-else-keys-to
 returns-else-keys-to c =
     let l = c.loop-to in
-    let e = ap (λ (b : ℕ). ltb b (c.args.bar + 1)) (keys_bar c.args.s c.requires.lanes_promise l.to (omega (arith, ltb-true))) ∙ c.if-keys-to.false in
+    let e = ap (λ (b : ℕ). ltb b (c.args.bar + 1)) (keys_bar c.args.s c.requires.lanes_promise l.to (omega (arith, ltb-true))) ∙ le-ltb _ _ c.if-keys-to.false in
     rw (← l.invariant.1, ← before_first c.args.s c.requires.lanes_promise Lane.Keys (c.args.bar + 1) l.to (omega (arith, ltb-true)) l.invariant.2 e)
 
 pub returns-after-loop-to : goal.returns-after-loop-to

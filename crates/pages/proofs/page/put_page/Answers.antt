@@ -34,7 +34,6 @@ put_run-c-requires c =
 pub put_page_hits-d-requires : goal.put_page_hits-d-requires
 put_page_hits-d-requires c =
     let w = wrote_then c.put_edition-z.ensures (wrote_then c.put_chord-a.ensures (wrote_then (run_wrote c.args.s c.requires.paged.lanes Lane.Lead c.args.p.keys c.args.bar c.args.runs.lead (lead_is (goal.at.put_page_hits-d-requires c).Start) c.put_run-b.ensures) (run_wrote c.args.s c.requires.paged.lanes Lane.Keys c.args.p.keys c.args.bar c.args.runs.keys (keys_is (goal.at.put_page_hits-d-requires c).Start) c.put_run-c.ensures))) in
-    let q = c.requires.1.1.1.1 in
     record { writable = c.requires.paged.writable; hits_within = c.requires.hits_within; count_bound = c.requires.count_bound; count_in_bounds = omega (arith, w.next, wrote_length w, c.requires.count_in_bounds) }
 
 pub put_run-requires : goal.put_run-requires

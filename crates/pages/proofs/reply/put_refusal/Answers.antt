@@ -6,4 +6,5 @@ use Rattle.pages.proofs.reply.put_refusal.Goals as goal
 pub returns : goal.returns
 unfolding field
 returns c =
-    rw (← c.number-number.ensures) (wrote_first (wrote_then c.put_head-at.ensures c.put_u8.ensures))
+    let all = wrote_first (wrote_then c.put_head-at.ensures c.put_u8.ensures) in
+    record { value = all.0; out_after = rw (← c.number-number.ensures) all.1 }

@@ -1,8 +1,8 @@
 -- After b turns the first b bars are written; a turn writes one more. Assumes nothing.
 use mathlib.Core.Path.{◌≡◌, refl}
-use Prim.Native.Nat.{◌-◌}
 use native.Mathlib.Omega.{arith}
-use lib.ListN.{length, length-map}
+use borrow.Author.Rules.{rules}
+use lib.ListN.{length}
 use Rattle.laws.proofs.Writes.{wrote_none, wrote_then, wrote_as, wrote_length}
 use Rattle.composer.specs.Form.Plays.{bits_of, silent}
 use Rattle.laws.proofs.Lists.{map_take_on}
@@ -10,7 +10,7 @@ use Rattle.pages.proofs.sheet.put_bars.Goals as goal
 
 pub loop-b-init : goal.loop-b-init
 loop-b-init c =
-    let most : length c.args.f.plays ≡ 64 = simp length-map at c.well_formed.1.1.0.1.1.1.1.1.1.0.1.0.1 in
+    let most : length c.args.f.plays ≡ 64 = search rules in
     (omega arith, most, refl, wrote_none c.args.buf.now c.args.at (omega arith))
 
 pub offset_bounds-plays-b : goal.offset_bounds-plays-b

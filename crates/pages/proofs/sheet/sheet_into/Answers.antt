@@ -1,7 +1,7 @@
 -- The size by the counts is the sheet's length. Assumes nothing.
 use mathlib.Core.Path.{◌≡◌}
 use native.Mathlib.Omega.{arith}
-use lib.ListN.{length, length-map}
+use lib.ListN.{length}
 use Rattle.pages.specs.Sheet.{sheet_bytes}
 use Rattle.pages.proofs.AnswerLaws.{refused, served}
 use Rattle.pages.proofs.SheetLaws.{chords_length, sheet_length}
@@ -16,9 +16,9 @@ six_at d = search rules
 -- `good` says of each parameter what its type does: here, how long an array in it is
 pub returns-then-buf-size : goal.returns-then-buf-size
 returns-then-buf-size c =
-    let eight : length c.args.s.bar_chords ≡ 8 = simp length-map at c.well_formed.1.1.0.1.1.1.1.0.1.0.1 in
+    let eight : length c.args.s.bar_chords ≡ 8 = search rules in
     let six = six_at (goal.at.returns-then-buf-size c).Start in
-    let most : length c.args.f.plays ≡ 64 = simp length-map at c.well_formed.1.1.1.1.0.1.1.1.1.1.1.0.1.0.1 in
+    let most : length c.args.f.plays ≡ 64 = search rules in
     let size = sheet_length c.args.edition c.args.seed c.args.s c.args.scale c.args.f c.requires.writable.lanes (chords_length c.args.s.bar_chords eight c.requires.chorded) (omega arith) (omega arith) in
     let all = refused c.args.buf.now (sheet_bytes c.args.edition c.args.seed c.args.s c.args.scale c.args.f) (omega arith) in
     record { value = all.0; buf_after = all.1 }

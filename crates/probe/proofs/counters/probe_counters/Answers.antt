@@ -6,8 +6,8 @@ use Rattle.probe.proofs.counters.probe_counters.Goals as goal
 
 pub returns-in-Refused : goal.returns-in-Refused
 returns-in-Refused c = rw (← c.compose-song.ensures, c.in-Refused.is)
-    (record { value = to_z-of_z w64 c.minus_number.result (record { sfits = c.minus_number.type-inv }) ∙ c.minus_number.ensures; out_after = refl })
+    (record { value = to_z-of_z w64 c.minus_number.result (record { sfits = c.minus_number.type_inv }) ∙ c.minus_number.ensures; out_after = refl })
 
 pub returns-in-Done : goal.returns-in-Done
 returns-in-Done c = rw (← c.compose-song.ensures, c.in-Done.is)
-    (record { value = to_z-of_z w64 c.put_counters.result (record { sfits = c.put_counters.type-inv }) ∙ c.put_counters.ensures.value; out_after = c.put_counters.ensures.out_after })
+    (record { value = to_z-of_z w64 c.put_counters.result (record { sfits = c.put_counters.type_inv }) ∙ c.put_counters.ensures.value; out_after = c.put_counters.ensures.out_after })

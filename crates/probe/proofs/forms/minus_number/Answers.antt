@@ -4,7 +4,7 @@ use Rattle.laws.proofs.Signed.{minus_fits, minus_reads}
 use Rattle.probe.proofs.forms.minus_number.Goals as goal
 
 pub overflow_sub-result : goal.overflow_sub-result
-overflow_sub-result c = minus_fits c.number.result (omega (arith, c.number.type-inv))
+overflow_sub-result c = minus_fits c.number.result (omega (arith, c.number.type_inv))
 
 pub returns : goal.returns
-returns c = rw (← c.number.ensures) (minus_reads c.number.result (omega (arith, c.number.type-inv)))
+returns c = rw (← c.number.ensures) (minus_reads c.number.result (omega (arith, c.number.type_inv)))

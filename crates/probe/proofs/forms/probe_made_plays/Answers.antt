@@ -11,4 +11,4 @@ pub returns : goal.returns
 returns c =
     let bar = c.args.bar in
     let e = c.plays-a.ensures ∙ ap (λ (f : Form). plays_of f bar) c.made-f.ensures in
-    to_z-of_z w64 c.plays_number.result (record { sfits = c.plays_number.type-inv }) ∙ c.plays_number.ensures ∙ ap plays_number_of e
+    to_z-of_z w64 c.plays_number.result (record { sfits = c.plays_number.type_inv }) ∙ c.plays_number.ensures ∙ ap plays_number_of e

@@ -1,6 +1,5 @@
 -- After i turns the first i hits stand before the padding. Assumes nothing.
 use mathlib.Core.Path.{◌≡◌, sym, ◌∙◌}
-use Prim.Native.Nat.{◌-◌}
 use native.Mathlib.Omega.{arith}
 use Rattle.laws.specs.Lists.{list_to}
 use Rattle.laws.proofs.Lists.{length_list_to, pad_start, pad_on, pad_full}

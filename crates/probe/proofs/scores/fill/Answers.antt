@@ -1,6 +1,5 @@
 -- After i turns the first i words stand in the first i places. Assumes nothing.
 use mathlib.Core.Path.{◌≡◌, refl, sym, ◌∙◌}
-use Prim.Native.Nat.{◌-◌}
 use native.Mathlib.Omega.{arith}
 use lib.ListN.{length}
 use Rattle.laws.proofs.Lists.{fill_none, fill_on, fill_all}
