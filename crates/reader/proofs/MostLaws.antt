@@ -12,7 +12,6 @@ use Rattle.pages.specs.Edition.{sheet_most}
 use Rattle.pages.specs.Writable.{SizedLanes}
 use Rattle.pages.specs.declared.edition.Edition.{Edition}
 use Rattle.pages.proofs.SheetLaws.{chords_length, sheet_length, counts_most, edition_most}
-use Rattle.reader.specs.Layout.{formed}
 use Rattle.reader.specs.Read.{read_of, write_asked, reread_asked}
 use Rattle.reader.specs.Song.{song_in, sheet_of}
 use Rattle.reader.specs.Value.{valid, Typed, Value}

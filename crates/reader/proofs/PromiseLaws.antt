@@ -8,9 +8,7 @@ use Rattle.composer.specs.Refusal.{Answer, Gives, Refuses, answer_by}
 use Rattle.composer.specs.declared.refusal.Outcome.{Outcome}
 use Rattle.pages.specs.Answer.{Writes, bytes_of}
 use Rattle.pages.proofs.AnswerLaws.{refused, call_answers, room_answers, asked_refused}
-use Rattle.reader.specs.Codes.{coded}
 use Rattle.reader.specs.Composed.{composed_song}
-use Rattle.reader.specs.Layout.{formed}
 use Rattle.reader.specs.Promise.{Octets, Reads, Makes, ReaderPromise, ReadAnswers, WriteAnswers, RereadAnswers}
 use Rattle.reader.specs.Read.{read_of, read_answered, write_asked, reread_asked}
 use Rattle.reader.specs.Song.{sheet_of}

@@ -9,7 +9,7 @@ use native.Mathlib.Omega.{arith}
 use lib.ListN.{length}
 use Rattle.pages.specs.Edition.{edition_size}
 use Rattle.reader.specs.Inner.Layout.{Roomy}
-use Rattle.reader.specs.Layout.{edition_in, start_at, body_at, size_at, most, formed}
+use Rattle.reader.specs.Layout.{edition_in, start_at, body_at, size_at, formed}
 use Rattle.reader.proofs.FitLaws.{whole_size, last_start_lem, entries}
 
 -- ---- the first of the ten stands behind the edition's own, and each other begins where the one before it ends

@@ -1,4 +1,6 @@
 // The reader: a sheet's bytes back into the song that they name, and the canonical writer of such songs.
+#![tactic(auto)]
+
 pub mod cleared;
 pub mod codes;
 pub mod event;

@@ -1,10 +1,5 @@
 -- Its parts, each from its field. Assumes nothing.
-use mathlib.Core.Path.{◌≡◌}
-use Prim.Native.Nat.{ℕ, ◌<◌}
 use native.Mathlib.Omega.{arith}
-use lib.ListN.{get_or}
-use Rattle.reader.specs.Inner.Layout.{Roomy}
-use Rattle.reader.specs.Layout.{body_at, size_at}
 use Rattle.reader.proofs.LaidLaws.{body_in_lem, size_in}
 use Rattle.reader.specs.Codes.{coded}
 use Rattle.reader.proofs.codes.is_coded.Goals as goal

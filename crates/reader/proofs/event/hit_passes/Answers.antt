@@ -24,10 +24,10 @@ joined_three : (d : Joined-bar-lt8)
 joined_three d =
     let b = d.byte_in-bar.result in
     let t : d.if-bar-lt8.value ≡ (ltb b 8 && finite (f32_at d.args.bytes.now (d.args.at + 2))) =
-        elim d.if-bar-lt8.branch [
-          then-bar-lt8 w ↦ and_then _ (lt-ltb b 8 w.if-bar-lt8.true) (w.value-is ∙ w.finite_at.ensures)
-        | else-bar-lt8 w ↦ and_else _ (le-ltb b 8 w.if-bar-lt8.false) (w.value-is ∙ le-ltb b 8 w.if-bar-lt8.false)
-        ] in
+    elim d.if-bar-lt8.branch [
+      | then-bar-lt8 w ↦ and_then _ (lt-ltb b 8 w.if-bar-lt8.true) (w.value-is ∙ w.finite_at.ensures)
+      | else-bar-lt8 w ↦ and_else _ (le-ltb b 8 w.if-bar-lt8.false) (w.value-is ∙ le-ltb b 8 w.if-bar-lt8.false)
+    ] in
     all_three d.args.bytes.now d.args.at d.byte_in-bar.ensures t
 
 pub returns-then-finite_at : goal.returns-then-finite_at

@@ -1,7 +1,6 @@
 -- The events tested so far all pass; the first that does not ends the loop before n. Assumes nothing.
-use mathlib.Core.Bool.{true}
 use mathlib.Core.Path.{◌≡◌, refl, sym, ap, ◌∙◌}
-use Prim.Native.Nat.{◌+◌, ◌-◌, ◌*◌, ◌<◌}
+use Prim.Native.Nat.{◌+◌, ◌*◌, ◌<◌}
 use native.Mathlib.Numerals.{add-one}
 use native.Mathlib.Omega.{arith}
 use borrow.Author.Tests.{ltb-true, eq-eqb, ne_eqb}
@@ -43,10 +42,10 @@ pub returns : goal.returns
 returns c =
     let l = c.loop-i in
     elim c.loop-i-test.branch [
-      then-loop-i-test+else-hit_passes w ↦
-        let h : l.i < c.args.n = omega (arith, w.loop-i-test.true) in
-        ne_eqb l.i c.args.n (λ e. omega arith) ∙ all_to_fails (λ j. hit_within (hit_at c.args.bytes.now (c.args.at + 10 * j))) c.args.n l.i h (sym w.hit_passes.ensures ∙ w.if-hit_passes.false)
-    | else-loop-i-test w ↦
-        let e : l.i ≡ c.args.n = omega (arith, w.loop-i-test.false) in
-        eq-eqb l.i c.args.n e ∙ sym l.invariant.1 ∙ ap (hits_pass c.args.bytes.now c.args.at) e
+      | then-loop-i-test+else-hit_passes w ↦
+          let h : l.i < c.args.n = omega (arith, w.loop-i-test.true) in
+          ne_eqb l.i c.args.n (λ e. omega arith) ∙ all_to_fails (λ j. hit_within (hit_at c.args.bytes.now (c.args.at + 10 * j))) c.args.n l.i h (sym w.hit_passes.ensures ∙ w.if-hit_passes.false)
+      | else-loop-i-test w ↦
+          let e : l.i ≡ c.args.n = omega (arith, w.loop-i-test.false) in
+          eq-eqb l.i c.args.n e ∙ sym l.invariant.1 ∙ ap (hits_pass c.args.bytes.now c.args.at) e
     ]

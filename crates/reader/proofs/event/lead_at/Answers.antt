@@ -1,7 +1,7 @@
 -- The entries read so far over zeros, one more with each turn. Assumes nothing.
 use mathlib.Core.Bool.{true}
 use mathlib.Core.Path.{◌≡◌, sym, ap, ◌∙◌}
-use Prim.Native.Nat.{◌+◌, ◌-◌, ◌*◌}
+use Prim.Native.Nat.{◌+◌, ◌*◌}
 use native.Mathlib.Omega.{arith}
 use Rattle.laws.specs.Lists.{pad}
 use Rattle.laws.proofs.Lists.{pad_start, pad_on}

@@ -43,28 +43,28 @@ joined_six d =
     let bytes = d.args.bytes.now in
     let at = d.args.at in
     let q : d.if-midi-le127.value ≡ (ltb b 8 && leb m 127 && role_within d.args.edition d.args.leads (role_at d.args.edition d.args.leads bytes (at + 14))) =
-        elim d.if-midi-le127.branch [
-          then-midi-le127 w ↦ and_then _ (both_hold b m w.if-midi-le127.true) (w.value-is ∙ w.role_passes.ensures)
-        | else-midi-le127 w ↦
+    elim d.if-midi-le127.branch [
+      | then-midi-le127 w ↦ and_then _ (both_hold b m w.if-midi-le127.true) (w.value-is ∙ w.role_passes.ensures)
+      | else-midi-le127 w ↦
           let f = one_fails b m w.if-midi-le127.either in
           and_else _ f
           (w.value-is
           ∙ elim d.if-bar-lt8.branch [
-              then-bar-lt8 v ↦ and_then _ (lt-ltb b 8 v.if-bar-lt8.true) cc
+            | then-bar-lt8 v ↦ and_then _ (lt-ltb b 8 v.if-bar-lt8.true) cc
             | else-bar-lt8 v ↦ and_else _ (le-ltb b 8 v.if-bar-lt8.false) cc
-            ]
+          ]
           ∙ f)
-        ] in
+    ] in
     let r : d.if-role_passes.value ≡ (d.if-midi-le127.value && finite (f32_at bytes (at + 1))) =
-        elim d.if-role_passes.branch [
-          then-role_passes w ↦ and_then _ w.if-role_passes.true (w.value-is ∙ w.finite_at.ensures)
-        | else-role_passes w ↦ and_else _ w.if-role_passes.false (w.value-is ∙ w.if-role_passes.false)
-        ] in
+    elim d.if-role_passes.branch [
+      | then-role_passes w ↦ and_then _ w.if-role_passes.true (w.value-is ∙ w.finite_at.ensures)
+      | else-role_passes w ↦ and_else _ w.if-role_passes.false (w.value-is ∙ w.if-role_passes.false)
+    ] in
     let t : d.if-finite_at.value ≡ (d.if-role_passes.value && finite (f32_at bytes (at + 6))) =
-        elim d.if-finite_at.branch [
-          then-finite_at w ↦ and_then _ w.if-finite_at.true (w.value-is ∙ w.finite_at-then-finite_at.ensures)
-        | else-finite_at w ↦ and_else _ w.if-finite_at.false (w.value-is ∙ w.if-finite_at.false)
-        ] in
+    elim d.if-finite_at.branch [
+      | then-finite_at w ↦ and_then _ w.if-finite_at.true (w.value-is ∙ w.finite_at-then-finite_at.ensures)
+      | else-finite_at w ↦ and_else _ w.if-finite_at.false (w.value-is ∙ w.if-finite_at.false)
+    ] in
     all_six bytes at d.args.edition d.args.leads d.byte_in-bar.ensures d.byte_in-midi.ensures q r t
 
 pub byte_in-bar-requires : goal.byte_in-bar-requires

@@ -2,13 +2,11 @@
 use mathlib.Core.Bool.{Bool, true, false, ◌&&◌}
 use mathlib.Core.List.{List}
 use mathlib.Core.Path.{◌≡◌, ap, ◌∙◌}
-use Prim.Native.Nat.{ℕ, ◌/◌, ◌<◌}
+use Prim.Native.Nat.{ℕ, ◌/◌}
 use native.Mathlib.Omega.{arith}
 use lib.Ieee.Scale.{finite}
-use lib.ListN.{get_or}
 use Rattle.pages.specs.Bytes.{f32_at}
 use Rattle.pages.specs.Edition.{note_width}
-use Rattle.reader.specs.Inner.Layout.{Roomy}
 use Rattle.reader.specs.Inner.Reading.{notes_pass, hits_pass}
 use Rattle.reader.specs.Layout.{edition_in, body_at, size_at}
 use Rattle.reader.specs.Song.{chords_from, note_count_in, score_in}

@@ -2,11 +2,8 @@
 use mathlib.Core.Bool.{Bool, ◌&&◌}
 use mathlib.Core.List.{List}
 use mathlib.Core.Path.{◌≡◌, ap, ◌∙◌}
-use Prim.Native.Nat.{ℕ, ◌<◌}
+use Prim.Native.Nat.{ℕ}
 use native.Mathlib.Omega.{arith}
-use lib.ListN.{get_or}
-use Rattle.reader.specs.Inner.Layout.{Roomy}
-use Rattle.reader.specs.Layout.{body_at, size_at}
 use Rattle.reader.proofs.LaidLaws.{body_in_lem, size_in, both_are}
 use Rattle.reader.specs.Song.{scale_at, song_in}
 use Rattle.reader.specs.Within.{score_within, scale_within, form_within, within}

@@ -2,7 +2,6 @@
 use mathlib.Core.Path.{◌≡◌, sym, ◌∙◌}
 use native.Mathlib.Omega.{arith}
 use Rattle.composer.specs.declared.refusal.Outcome.{Outcome}
-use Rattle.reader.specs.Promise.{Octets}
 use Rattle.reader.specs.Read.{read_of}
 use Rattle.reader.proofs.AskedLaws.{passes, passes_read, read_refused_lem}
 use Rattle.reader.proofs.RoomyLaws.{formed_roomy}

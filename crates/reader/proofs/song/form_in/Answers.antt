@@ -1,10 +1,5 @@
 -- Its parts, each at its place. Assumes nothing.
-use mathlib.Core.Path.{◌≡◌}
-use Prim.Native.Nat.{ℕ, ◌<◌}
 use native.Mathlib.Omega.{arith}
-use lib.ListN.{get_or}
-use Rattle.reader.specs.Inner.Layout.{Roomy}
-use Rattle.reader.specs.Layout.{body_at, size_at}
 use Rattle.reader.proofs.LaidLaws.{body_in_lem, size_in}
 use Rattle.reader.specs.Song.{form_in}
 use Rattle.reader.proofs.song.form_in.Goals as goal

@@ -2,12 +2,11 @@
 use mathlib.Core.Bool.{true, false}
 use mathlib.Core.List.{List}
 use mathlib.Core.Path.{◌≡◌, sym, ap, ◌∙◌, subst}
-use Prim.Native.Nat.{ℕ, ◌+◌, ◌/◌, ◌<◌}
+use Prim.Native.Nat.{ℕ, ◌+◌, ◌/◌}
 use native.Mathlib.Omega.{arith}
 use lib.Ieee.{Float}
 use lib.Ieee.Scale.{finite}
 use lib.Dec.{T}
-use lib.ListN.{get_or}
 use Rattle.laws.specs.Lists.{pad}
 use Rattle.composer.specs.Compose.{style_by}
 use Rattle.composer.specs.Note.{no_note, no_hit}
@@ -19,13 +18,12 @@ use Rattle.composer.specs.declared.voice.LeadVoice.{LeadVoice}
 use Rattle.pages.specs.Bytes.{byte_at, f32_at}
 use Rattle.pages.specs.Edition.{note_width}
 use Rattle.reader.specs.Codes.{voice_coded}
-use Rattle.reader.specs.Inner.Layout.{Roomy}
 use Rattle.reader.specs.Inner.Reading.{hits_pass}
 use Rattle.reader.specs.Layout.{edition_in, body_at, size_at}
 use Rattle.reader.specs.Song.{notes_at, hits_at, chords_from, note_count_in, score_in}
 use Rattle.reader.proofs.LaidLaws.{edition_in_lem, body_in_lem, size_in, all_are, both_are}
 use Rattle.reader.proofs.ReadingLaws.{notes_within_lem, hits_within_lem}
-use Rattle.reader.proofs.TestedLaws.{ScoreTold, score_told}
+use Rattle.reader.proofs.TestedLaws.{score_told}
 use Rattle.reader.proofs.WidthLaws.{width_least}
 use Rattle.reader.proofs.song.score_in.Goals as goal
 

@@ -1,7 +1,5 @@
 -- The events tested so far, one more with each turn. Assumes nothing.
-use mathlib.Core.Bool.{false}
 use mathlib.Core.Path.{◌≡◌, refl}
-use Prim.Native.Nat.{◌-◌}
 use native.Mathlib.Numerals.{add-one}
 use native.Mathlib.Omega.{arith}
 use borrow.Author.Tests.{lt-leb, le-leb}

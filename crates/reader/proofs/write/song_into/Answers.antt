@@ -1,7 +1,4 @@
 -- What is in range can be written; the arrays' lengths are the types'. Assumes nothing.
-use Prim.Native.Nat.{◌≤◌}
-use Rattle.pages.specs.Writable.{Writable}
-use Rattle.reader.specs.Value.{Shaped}
 use Rattle.reader.proofs.BarsLaws.{song_bars}
 use Rattle.reader.proofs.TestedLaws.{within_told, scale_told, form_told, told_writable}
 use Rattle.reader.proofs.TypesLaws.{song_typed}

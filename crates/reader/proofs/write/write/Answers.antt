@@ -1,8 +1,8 @@
 -- By the test of the value. Assumes nothing.
-use mathlib.Core.Bool.{true, false, ◌&&◌}
+use mathlib.Core.Bool.{true, false}
 use mathlib.Core.Path.{◌≡◌, refl, sym, ◌∙◌}
 use Rattle.laws.proofs.Bools.{both}
-use Rattle.reader.specs.Value.{valid, Typed}
+use Rattle.reader.specs.Value.{valid}
 use Rattle.reader.proofs.AskedLaws.{asked_valid, asked_other, tests_valid}
 use Rattle.reader.proofs.TypesLaws.{song_typed}
 use Rattle.reader.proofs.write.write.Goals as goal
