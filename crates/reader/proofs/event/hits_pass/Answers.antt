@@ -1,6 +1,5 @@
 -- The events tested so far all pass; the first that does not ends the loop before n. Assumes nothing.
 use mathlib.Core.Bool.{true}
-use mathlib.Core.Logic.{⊎_elim}
 use mathlib.Core.Path.{◌≡◌, refl, sym, ap, ◌∙◌}
 use Prim.Native.Nat.{◌+◌, ◌-◌, ◌*◌, ◌<◌}
 use native.Mathlib.Numerals.{add-one}
@@ -12,6 +11,7 @@ use Rattle.reader.specs.Tests.{all_to}
 use Rattle.reader.specs.Within.{hit_within}
 use Rattle.reader.proofs.TestLaws.{all_to_fails}
 use Rattle.reader.proofs.event.hits_pass.Goals as goal
+use Rattle.reader.proofs.event.hits_pass.Goals.{then-loop-i-test+else-hit_passes, else-loop-i-test}
 
 pub loop-i-init : goal.loop-i-init
 unfolding all_to
@@ -42,11 +42,11 @@ loop-i-preserved c =
 pub returns : goal.returns
 returns c =
     let l = c.loop-i in
-    ⊎_elim
-    (λ w.
-    let h : l.i < c.args.n = omega (arith, w.0.taken) in
-    ne_eqb l.i c.args.n (λ e. omega arith) ∙ all_to_fails (λ j. hit_within (hit_at c.args.bytes.now (c.args.at + 10 * j))) c.args.n l.i h (sym w.1.ensures ∙ w.2.left))
-    (λ w.
-    let e : l.i ≡ c.args.n = omega (arith, w.left) in
-    eq-eqb l.i c.args.n e ∙ sym l.invariant.1 ∙ ap (hits_pass c.args.bytes.now c.args.at) e)
-    c.loop-i-test.branch
+    elim c.loop-i-test.branch [
+      then-loop-i-test+else-hit_passes w ↦
+        let h : l.i < c.args.n = omega (arith, w.loop-i-test.true) in
+        ne_eqb l.i c.args.n (λ e. omega arith) ∙ all_to_fails (λ j. hit_within (hit_at c.args.bytes.now (c.args.at + 10 * j))) c.args.n l.i h (sym w.hit_passes.ensures ∙ w.if-hit_passes.false)
+    | else-loop-i-test w ↦
+        let e : l.i ≡ c.args.n = omega (arith, w.loop-i-test.false) in
+        eq-eqb l.i c.args.n e ∙ sym l.invariant.1 ∙ ap (hits_pass c.args.bytes.now c.args.at) e
+    ]

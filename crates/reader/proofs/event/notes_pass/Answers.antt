@@ -1,6 +1,5 @@
 -- The events tested so far all pass; the first that does not ends the loop before n. Assumes nothing.
 use mathlib.Core.Bool.{true}
-use mathlib.Core.Logic.{⊎_elim}
 use mathlib.Core.Path.{◌≡◌, refl, sym, ap, ◌∙◌}
 use Prim.Native.Nat.{◌+◌, ◌-◌, ◌*◌, ◌<◌}
 use native.Mathlib.Numerals.{add-one}
@@ -14,6 +13,7 @@ use Rattle.reader.specs.Within.{note_within}
 use Rattle.reader.proofs.TestLaws.{all_to_fails}
 use Rattle.reader.proofs.WidthLaws.{width_fits}
 use Rattle.reader.proofs.event.notes_pass.Goals as goal
+use Rattle.reader.proofs.event.notes_pass.Goals.{then-loop-i-test+else-note_passes, else-loop-i-test}
 
 pub loop-i-init : goal.loop-i-init
 unfolding all_to
@@ -51,11 +51,11 @@ pub returns : goal.returns
 returns c =
     let l = c.loop-i in
     let wide = c.note_width-width.ensures in
-    ⊎_elim
-    (λ w.
-    let h : l.i < c.args.n = omega (arith, w.0.taken) in
-    ne_eqb l.i c.args.n (λ e. omega arith) ∙ all_to_fails (λ j. note_within c.args.edition c.args.leads (note_at c.args.edition c.args.leads c.args.bytes.now (c.args.at + note_width c.args.edition * j))) c.args.n l.i h (rw (← wide) (sym w.1.ensures ∙ w.2.left)))
-    (λ w.
-    let e : l.i ≡ c.args.n = omega (arith, w.left) in
-    eq-eqb l.i c.args.n e ∙ sym l.invariant.1 ∙ ap (notes_pass c.args.edition c.args.leads c.args.bytes.now c.args.at) e)
-    c.loop-i-test.branch
+    elim c.loop-i-test.branch [
+      then-loop-i-test+else-note_passes w ↦
+        let h : l.i < c.args.n = omega (arith, w.loop-i-test.true) in
+        ne_eqb l.i c.args.n (λ e. omega arith) ∙ all_to_fails (λ j. note_within c.args.edition c.args.leads (note_at c.args.edition c.args.leads c.args.bytes.now (c.args.at + note_width c.args.edition * j))) c.args.n l.i h (rw (← wide) (sym w.note_passes.ensures ∙ w.if-note_passes.false))
+    | else-loop-i-test w ↦
+        let e : l.i ≡ c.args.n = omega (arith, w.loop-i-test.false) in
+        eq-eqb l.i c.args.n e ∙ sym l.invariant.1 ∙ ap (notes_pass c.args.edition c.args.leads c.args.bytes.now c.args.at) e
+    ]

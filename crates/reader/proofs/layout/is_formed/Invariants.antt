@@ -13,7 +13,7 @@ abbrev pub tagged : List ℕ → ℕ → Bool
 tagged b k = eqb (byte_at b (start_at b k)) (k + 1)
 
 abbrev pub invariant-loop-k : goal.invariant-loop-k
-invariant-loop-k l = (l.l.k ≤ 10) × (l.l.tags ≡ all_to (tagged l.l.bytes) l.l.k)
+invariant-loop-k l = (l.k ≤ 10) × (l.tags ≡ all_to (tagged l.bytes) l.k)
 
 abbrev pub decreases-loop-k : goal.decreases-loop-k
-decreases-loop-k l = 10 - l.l.k
+decreases-loop-k l = 10 - l.k

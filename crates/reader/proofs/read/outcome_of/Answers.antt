@@ -1,7 +1,6 @@
 -- By the tests; fields of lengths that fit leave room in the arrays. Assumes nothing.
 use mathlib.Core.Bool.{Bool, true, false, ◌&&◌}
 use mathlib.Core.Path.{◌≡◌, sym, ◌∙◌}
-use borrow.Author.Tests.{not-true, not-false}
 use Rattle.reader.specs.Codes.{coded}
 use Rattle.reader.specs.Layout.{formed}
 use Rattle.reader.specs.Read.{read_of}
@@ -9,26 +8,22 @@ use Rattle.reader.specs.Song.{song_in}
 use Rattle.reader.specs.Within.{within}
 use Rattle.reader.proofs.RoomyLaws.{formed_roomy}
 use Rattle.reader.proofs.read.outcome_of.Goals as goal
-use Rattle.reader.proofs.read.outcome_of.Goals.{Else-not-formed}
 
 told : {a a' b b' t : Bool} → a ≡ a' → b ≡ b' → (a && b) ≡ t → (a' && b') ≡ t
 told p q e = rw (p, q) at e
-
-has_fields : (c : Else-not-formed) → formed c.args.bytes.now ≡ true
-has_fields c = let f = c.is_formed-formed in sym f.ensures ∙ not-false f.result c.if-not-formed.false
 
 pub returns-then-not-formed : goal.returns-then-not-formed
 unfolding read_of
 returns-then-not-formed c =
     let f = c.is_formed-formed in
-    let e : formed c.args.bytes.now ≡ false = sym f.ensures ∙ not-true f.result c.if-not-formed.true in
+    let e : formed c.args.bytes.now ≡ false = sym f.ensures ∙ c.if-not-formed.true in
     rw e
 
 pub is_coded-coded-requires : goal.is_coded-coded-requires
-is_coded-coded-requires c = record { l_value = c.requires; roomy = formed_roomy c.args.bytes.now (has_fields (goal.at.is_coded-coded-requires c).Else-not-formed) }
+is_coded-coded-requires c = record { l_value = c.requires; roomy = formed_roomy c.args.bytes.now (sym c.is_formed-formed.ensures ∙ c.if-not-formed.false) }
 
 pub song_passes-within-requires : goal.song_passes-within-requires
-song_passes-within-requires c = record { l_value = c.requires; roomy = formed_roomy c.args.bytes.now (has_fields (goal.at.song_passes-within-requires c).Else-not-formed) }
+song_passes-within-requires c = record { l_value = c.requires; roomy = formed_roomy c.args.bytes.now (sym c.is_formed-formed.ensures ∙ c.if-not-formed.false) }
 
 pub returns-then-not-coded-within : goal.returns-then-not-coded-within
 unfolding read_of
@@ -36,8 +31,8 @@ returns-then-not-coded-within c =
     let b = c.args.bytes.now in
     let w = c.song_passes-within in
     let k = c.is_coded-coded in
-    let n : (coded b && within (song_in b)) ≡ false = told k.ensures w.ensures (not-true (k.result && w.result) c.if-not-coded-within.true) in
-    rw (has_fields (goal.at.returns-then-not-coded-within c).Else-not-formed, n)
+    let n : (coded b && within (song_in b)) ≡ false = told k.ensures w.ensures c.if-not-coded-within.true in
+    rw (sym c.is_formed-formed.ensures ∙ c.if-not-formed.false, n)
 
 pub returns : goal.returns
 unfolding read_of
@@ -45,5 +40,5 @@ returns c =
     let b = c.args.bytes.now in
     let w = c.song_passes-within in
     let k = c.is_coded-coded in
-    let y : (coded b && within (song_in b)) ≡ true = told k.ensures w.ensures (not-false (k.result && w.result) c.if-not-coded-within.false) in
-    rw (has_fields (goal.at.returns c).Else-not-formed, y)
+    let y : (coded b && within (song_in b)) ≡ true = told k.ensures w.ensures c.if-not-coded-within.false in
+    rw (sym c.is_formed-formed.ensures ∙ c.if-not-formed.false, y)

@@ -7,10 +7,6 @@ use Rattle.reader.specs.Read.{read_of}
 use Rattle.reader.proofs.AskedLaws.{passes, passes_read, read_refused_lem}
 use Rattle.reader.proofs.RoomyLaws.{formed_roomy}
 use Rattle.reader.proofs.read.read.Goals as goal
-use Rattle.reader.proofs.read.read.Goals.{After-shared_slice_known-1}
-
-octets : (c : After-shared_slice_known-1) → Octets c.args.bytes.now
-octets c i = omega (arith, c.shared_slice_known-1.given i)
 
 pub song_in-song-requires : goal.song_in-song-requires
 song_in-song-requires c =
@@ -22,10 +18,10 @@ song_in-song-requires c =
 pub returns-in-Refused : goal.returns-in-Refused
 returns-in-Refused c =
     let e = sym c.outcome_of-outcome.ensures ∙ c.in-Refused.is in
-    record { value = c.refused.ensures ∙ sym (read_refused_lem c.args.bytes.now _ e); octets = octets (goal.at.returns-in-Refused c).After-shared_slice_known-1 }
+    record { value = c.refused.ensures ∙ sym (read_refused_lem c.args.bytes.now _ e); octets = λ i. omega (arith, c.type_inv.bytes i) }
 
 pub returns-in-Done : goal.returns-in-Done
 returns-in-Done c =
     let b = c.args.bytes.now in
     let done : (read_of b).outcome ≡ Outcome.Done = sym c.outcome_of-outcome.ensures ∙ c.in-Done.is in
-    record { value = rw c.song_in-song.ensures (sym (passes_read b (passes b done))); octets = octets (goal.at.returns-in-Done c).After-shared_slice_known-1 }
+    record { value = rw c.song_in-song.ensures (sym (passes_read b (passes b done))); octets = λ i. omega (arith, c.type_inv.bytes i) }
