@@ -1,3 +1,5 @@
 // The converter: sheets of one edition in the other.
+#![tactic(auto)]
+
 pub mod convert;
 pub mod same;

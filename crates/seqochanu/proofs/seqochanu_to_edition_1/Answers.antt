@@ -12,5 +12,8 @@ code-requires c = rw c.convert-w.ensures.value (convert_count _ _ _)
 pub returns : goal.returns
 returns c =
     let w = c.convert-w.ensures in
-    let all = (to_z-of_z w64 c.code.result (record { sfits = c.code.type_inv }) ∙ c.code.ensures ∙ ap code_of w.value, w.1) in
-    record { value = all.0; buf_after = all.1.0; octets = all.1.1 }
+    record {
+      value = to_z-of_z w64 c.code.result (record { sfits = c.code.type_inv }) ∙ c.code.ensures ∙ ap code_of w.value;
+      buf_after = w.buf_after;
+      octets = w.octets;
+    }

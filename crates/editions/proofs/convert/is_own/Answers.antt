@@ -1,14 +1,30 @@
 -- As many bytes as were written are the song's own sheet, whole. Assumes nothing.
-use mathlib.Core.Path.{sym, ap, ◌∙◌}
+use mathlib.Core.Path.{◌≡◌, ap, ◌∙◌}
+use mathlib.Core.List.{List}
+use Prim.Native.Nat.{ℕ, ◌≤◌}
 use native.Mathlib.Omega.{arith}
-use lib.Seq.{length-take-le}
+use lib.ListN.{length, take}
+use Rattle.pages.specs.Answer.{Asked, bytes_of, written_of, buffer_of, written_count}
 use Rattle.pages.specs.Sheet.{sheet_by}
+use Rattle.pages.specs.declared.answer.Written.{Written}
+use Rattle.pages.proofs.AnswerLaws.{count_most, count_bytes}
 use Rattle.editions.specs.Convert.{same_bytes}
 use Rattle.editions.proofs.convert.is_own.Goals as goal
+
+-- what was written, by its count
+module _ (a : Asked) (b : List ℕ) {w : Written} {n : ℕ} (room : length (bytes_of a) ≤ length b) (told : w ≡ written_of (length b) a) (count : n ≡ written_count w) where
+  few : n ≤ length b
+  few = rw (count, told) (omega (arith, count_most (length b) a))
+
+  whole : {b' : List ℕ} → b' ≡ buffer_of b a → take n b' ≡ bytes_of a
+  whole left = rw (count, told, left) (count_bytes a b room)
 
 pub slice_bounds-same_bytes-end : goal.slice_bounds-same_bytes-end
 slice_bounds-same_bytes-end c =
     omega (arith, few (sheet_by c.args.edition c.args.seed c.args.song) c.args.room.now c.requires.song_in_bounds c.composed_into-w.ensures.value c.count-n.ensures)
 
 pub returns : goal.returns
-returns c = ?
+returns c =
+    let w = c.composed_into-w.ensures in
+    c.same_bytes.ensures
+    ∙ ap (same_bytes c.args.sheet.now) (whole (sheet_by c.args.edition c.args.seed c.args.song) c.args.room.now c.requires.song_in_bounds w.value c.count-n.ensures w.buf_after)
