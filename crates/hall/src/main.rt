@@ -1,15 +1,34 @@
 // Reads a record from standard input, 8 bytes of hall number and 2 of count, and writes the hall's list, or the field
 // of a refusal, to standard output. A read that fails counts as the end of the input.
+#![tactic(auto)]
+
+ghost use Rattle.std.specs.Prelude.{IfSome, OnOk};
+ghost use Rattle.std.specs.Io.KnownBytes.{Appends};
+ghost use Rattle.pages.specs.Reply.{reply_bytes};
+ghost use Rattle.hall.specs.Record.{hall_asked};
+
+use input::read_full;
+use record::respond;
+use std::io;
+use std::io::{Read, Write};
+
+mod input;
 mod record;
 
-use libc::{STDIN_FILENO, STDOUT_FILENO};
-use record::respond;
-
-fn main() {
+// Writes what the input asks for. The error of a read that fails is answered once that is written.
+pub fn answer<R: Read, W: Write>(input: &mut R, output: &mut W) -> io::Result<()>
+    ensures { OnOk result (IfSome (R.remaining input.old) (λ xs.
+        Appends (W.contents output.old) (W.contents output.new) (reply_bytes (hall_asked xs)))) }
+{
     // a byte more than a record has, so that a longer input shows
-    let mut input = [0u8; 11];
-    let n = io::read_full(STDIN_FILENO, &mut input);
+    let mut bytes = [0u8; 11];
+    let (n, read) = read_full(input, &mut bytes);
     let mut out = [0u8; 32768];
-    let m = respond(&input[..n], &mut out);
-    io::write_all(STDOUT_FILENO, &out[..m]);
+    let m = respond(&bytes[..n], &mut out);
+    output.write_all(&out[..m])?;
+    read
+}
+
+fn main(rt: HostRuntime) -> io::Result<()> {
+    answer(&mut rt.stdin(), &mut rt.stdout())
 }

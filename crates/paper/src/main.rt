@@ -1,16 +1,37 @@
 // Reads a record from standard input, 8 seed bytes and an optional style byte, and writes its sheet, or the
 // field of a refusal, to standard output. A read that fails counts as the end of the input.
-mod record;
+#![tactic(auto)]
 
-use libc::{STDIN_FILENO, STDOUT_FILENO};
+ghost use Rattle.std.specs.Prelude.{IfSome, OnOk};
+ghost use Rattle.std.specs.Io.KnownBytes.{Appends};
+ghost use Rattle.pages.specs.Reply.{reply_bytes};
+ghost use Rattle.paper.specs.Promise.{PaperPromise};
+ghost use Rattle.paper.specs.Record.{paper_asked};
+
+use input::read_full;
 use pages::edition::SHEET_MOST;
 use record::respond;
+use std::io;
+use std::io::{Read, Write};
 
-fn main() {
+mod input;
+mod record;
+
+// Writes what the input asks for. The error of a read that fails is answered once that is written.
+pub fn answer<R: Read, W: Write>(input: &mut R, output: &mut W) -> io::Result<()>
+    ensures replied { OnOk result (IfSome (R.remaining input.old) (λ xs.
+        Appends (W.contents output.old) (W.contents output.new) (reply_bytes (paper_asked xs)))) }
+    ensures promise { IfSome (R.remaining input.old) PaperPromise }
+{
     // a byte more than a record has, so that a longer input shows
-    let mut input = [0u8; 10];
-    let n = io::read_full(STDIN_FILENO, &mut input);
+    let mut bytes = [0u8; 10];
+    let (n, read) = read_full(input, &mut bytes);
     let mut out = [0u8; SHEET_MOST];
-    let m = respond(&input[..n], &mut out);
-    io::write_all(STDOUT_FILENO, &out[..m]);
+    let m = respond(&bytes[..n], &mut out);
+    output.write_all(&out[..m])?;
+    read
+}
+
+fn main(rt: HostRuntime) -> io::Result<()> {
+    answer(&mut rt.stdin(), &mut rt.stdout())
 }
