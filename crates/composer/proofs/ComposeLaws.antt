@@ -149,7 +149,7 @@ module _ (style : Style) (seed : ℕ) where
   range_promise =
       let beat = beat_in (beats_of (stream_of Stage.Tempo seed) style) (tempo_between (stream_of Stage.Tempo seed) style) in
       record {
-        chord_size_lem = λ b h. root_size (get_or harmony.bars b past_chord) (tonal_root harmony tonal b h);
+        chord_size = λ b h. root_size (get_or harmony.bars b past_chord) (tonal_root harmony tonal b h);
         chords = λ b k h. root_within (get_or harmony.bars b past_chord) (tonal_root harmony tonal b h) k;
         lead = λ i h. let f = lead_fits (stream_of Stage.Lead seed) harmony tonal style beat_s i h in lead_window style _ f.0 f.1;
         keys = keys_within (stream_of Stage.Keys seed) harmony tonal style beat_s beat;

@@ -11,7 +11,7 @@ pub record Within (lo hi n : ℕ) : Type 0 where
 
 -- all of them are MIDI notes, at most 127
 pub record RangePromise (s : Score) : Type 0 where
-  pub chord_size_lem : (b : ℕ) → b < 8 → length (get_or s.bar_chords b past_chord).notes ≡ 4
+  pub chord_size : (b : ℕ) → b < 8 → length (get_or s.bar_chords b past_chord).notes ≡ 4
   pub chords : (b k : ℕ) → b < 8 → k < 4 → Within 48 70 (get_or (get_or s.bar_chords b past_chord).notes k 0)
   pub lead : (i : ℕ) → i < s.lead_count → Within 60 81 (get_or s.lead i past_note).midi
   pub keys : (i : ℕ) → i < s.keys_count → Within 48 73 (get_or s.keys i past_note).midi

@@ -19,7 +19,7 @@ use reader::song::Song;
 // `room`, so that no field is looked at by itself and none can be left out.
 fn is_own(sheet: &[u8], edition: Edition, seed: u64, song: Composed, room: &mut [u8]) -> bool
     requires promised { Promised song }
-    requires song_in_bounds { length (bytes_of (sheet_by edition seed song)) ≤ length room.old }
+    requires fits { length (bytes_of (sheet_by edition seed song)) ≤ length room.old }
     ensures { result ≡ same_bytes sheet.now (bytes_of (sheet_by edition seed song)) }
 {
     let w = composed_into(edition, seed, song, room);

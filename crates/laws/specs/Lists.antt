@@ -1,6 +1,5 @@
 -- Words for lists. Definitions only.
-use Rattle.std.proofs.Math.Bool.{Bool, false}
-use Rattle.std.specs.Prelude.{true, ◌&&◌, ◌||◌, cond, ℕ, zero, suc, ◌+◌, ◌-◌, length, replicate, take, drop}
+use Rattle.std.specs.Prelude.{Bool, true, false, ◌&&◌, ◌||◌, cond, ℕ, zero, suc, ◌+◌, ◌-◌, length, replicate, take, drop}
 use mathlib.Core.List.{List, [], ◌∷◌, ◌++◌}
 
 module _ {A : Type 0} where

@@ -192,11 +192,11 @@ module _ (style : Style) (seed : ℕ) where
   also : (layer : Plays → Bool) (tag : ℕ) → ((b : ℕ) (p : Plays) → plays_at f b ≡ Gives p → layer p ≡ true → has tag (page_at style seed b) ≡ true)
       → (b : ℕ) → b < 8 * f.phrases → body_strikes f layer b ≡ true → has tag (body_page style seed b) ≡ true
   also layer tag has-it b h e =
-      let k = form.found (intro_bars_of f + b) (omega (arith, form.«song-bars»)) in
+      let k = form.found (intro_bars_of f + b) (omega (arith, form.song_bars)) in
       has-it (intro_bars_of f + b) k.0 k.1 (strikes_by layer (plays_at f (intro_bars_of f + b)) k.0 k.1 e)
 
   drums_also : (b : ℕ) → b < 8 * f.phrases → body_strikes f (λ p. p.drums) b ≡ true → has_hits style seed (intro_bars_of f + b) ≡ true
-  drums_also b h e = rw (drums_told style seed (intro_bars_of f + b) (omega (arith, form.«song-bars»))) e
+  drums_also b h e = rw (drums_told style seed (intro_bars_of f + b) (omega (arith, form.song_bars))) e
 
   body : BodyPromise f.phrases (λ b. has 0x03 (body_page style seed b)) (λ b. has_hits style seed (intro_bars_of f + b)) (λ b. has 0x08 (body_page style seed b))
   body =
@@ -208,13 +208,13 @@ module _ (style : Style) (seed : ℕ) where
   over_chord b h e =
       let k = form.found b h in
       let bass : strikes (λ p. p.bass) (plays_at f b) ≡ true = rw k.1 (bass_plays style seed b k.0 k.1 e) in
-      chord_has style seed b k.0 k.1 (strikes_by (λ p. p.pad) (plays_at f b) k.0 k.1 (form.«over-pad» b h bass))
+      chord_has style seed b k.0 k.1 (strikes_by (λ p. p.pad) (plays_at f b) k.0 k.1 (form.over_pad b h bass))
 
   -- the body starts on loop bar 0
   eight_chords : (bar : ℕ) → bar < 8 → body_of 0x03 (body_page style seed bar) ≡ (get_or (composed_of style seed).score.bar_chords bar past_chord).notes
   eight_chords bar h =
       let b = intro_bars_of f + bar in
-      let k = form.found b (omega (arith, form.«song-bars», form.phrases.0)) in
+      let k = form.found b (omega (arith, form.song_bars, form.phrases.0)) in
       let at : loop_bar_of f b ≡ bar = omega arith in
       chord_read style seed b k.0 k.1 (body.chords bar (omega (arith, form.phrases.0)))
       ∙ ap (λ (n : ℕ). (get_or (composed_of style seed).score.bar_chords n past_chord).notes) at
@@ -224,7 +224,7 @@ module _ (style : Style) (seed : ℕ) where
     written = λ b h. let k = form.found b h in page_written style seed b k.0 k.1;
     sheet_written = sheet_written style seed;
     sheet_bars = sheet_bars style seed;
-    inside = omega (arith, form.«song-bars»);
+    inside = omega (arith, form.song_bars);
     phrases = form.phrases;
     body = body;
     entries = rw (composed_is style seed) ((song_promise style seed).score.scale_least, (song_promise style seed).score.scale_most, (song_promise style seed).score.scale_size);

@@ -130,7 +130,7 @@ module _ (seed : ℕ) (s : Score) (early : EarlyPromise s) (b : ℕ) where
   next_silent out true e = go (ltb (b + 1) f.bars) refl
     where
       go : (v : Bool) → ltb (b + 1) f.bars ≡ v → early_for s (loop_bar_of f (b + 1)) ≡ []
-      go true l = rw ((arranged_promise seed).«drums-back» b (ltb-true (b + 1) f.bars l) out e) early.first
+      go true l = rw ((arranged_promise seed).drums_back b (ltb-true (b + 1) f.bars l) out e) early.first
       go false l = absurd (clash e (past_silent f (b + 1) (ltb-false (b + 1) f.bars l)))
 
   pub silent_none : plays_drums f b ≡ false → page_hits s f b ≡ []

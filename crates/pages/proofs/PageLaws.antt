@@ -145,7 +145,7 @@ song_most style seed b =
     let hits = page_hits s (arrange_of seed) b in
     let song = (song_promise style seed).score in
     by_most (plays_of (arrange_of seed) b) s bar hits page_most
-    (λ p. omega (arith, page_length s song.range.chord_size_lem p bar hits (omega arith), bars_most s p bar (length hits) song.bars (page_hits_most s song.bars song.early (arrange_of seed) b)))
+    (λ p. omega (arith, page_length s song.range.chord_size p bar hits (omega arith), bars_most s p bar (length hits) song.bars (page_hits_most s song.bars song.early (arrange_of seed) b)))
 
 pub page_most_lem : (style seed b : ℕ) → length (bytes_of (page_asked style seed b)) ≤ page_most
 unfolding page_asked

@@ -70,7 +70,7 @@ module _ (P : ℕ → Type 0) (k : ℕ) (small : k < 15) (value : Note → ℕ) 
 -- ---- a loop bar of a score
 module _ (style : Style) (s : Score) (scale : Scale) (promise : ScorePromise style s scale) (bar : ℕ) (h : bar < 8) where
   pub chord_some : 0 < length (get_or (notes_of s.bar_chords) bar [])
-  chord_some = omega (arith, chord_notes s promise.range.chord_size_lem bar h)
+  chord_some = omega (arith, chord_notes s promise.range.chord_size bar h)
 
   pub bass_some : 0 < length (joined (drawn_for bar (events_of Edition.Two s Lane.Bass)))
   bass_some =

@@ -78,7 +78,7 @@ module _ (edition : Edition) where
       let song = (song_promise style seed).score in
       let form = arranged_promise seed in
       sheet_length seed (composed_of style seed).score (composed_of style seed).scale (arrange_of seed) (sized (composed_of style seed).score song.lanes)
-      (chords_length (composed_of style seed).score.bar_chords song.chord_count song.range.chord_size_lem)
+      (chords_length (composed_of style seed).score.bar_chords song.chord_count song.range.chord_size)
       (omega (arith, song.scale_most, song.scale_size))
       (omega (arith, form.most, form.size))
 

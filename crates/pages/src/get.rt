@@ -76,8 +76,8 @@ pub fn finite_at(bytes: &[u8], at: usize) -> bool
 
 // An f32 that is finite and so no NaN: nothing tests for one.
 pub fn f32_at(bytes: &[u8], at: usize) -> f32
-    requires at_in_bounds { at + 4 ≤ length bytes.now }
-    requires t { T (finite (f32_at bytes.now at)) }
+    requires room { at + 4 ≤ length bytes.now }
+    requires finite { T (finite (f32_at bytes.now at)) }
     ensures { result ≡ f32_at bytes.now at }
 {
     let n = u32_at(bytes, at);

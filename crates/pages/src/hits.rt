@@ -77,7 +77,7 @@ fn part_count(s: Score, run: Run, part: Part) -> usize
 // A hit, or nothing.
 fn put_shown(buf: &mut [u8], at: usize, h: Hit, on: bool) -> usize
     requires finite_hit { FiniteHit h }
-    requires on_in_bounds { at + 10 * cond on 1 0 ≤ length buf.old }
+    requires room { at + 10 * cond on 1 0 ≤ length buf.old }
     ensures { Wrote buf.old buf.new at result (10 * cond on 1 0) (shown on (hit_bytes h)) }
 {
     if !on {
@@ -90,7 +90,7 @@ fn put_shown(buf: &mut [u8], at: usize, h: Hit, on: bool) -> usize
 fn put_part(buf: &mut [u8], at: usize, s: Score, run: Run, part: Part) -> usize
     requires writable { Writable s }
     requires in_lane { InLane s Lane.Hits run }
-    requires hits_in_bounds { at + 10 * length (hits_in s part (run_of run s.hits)) ≤ length buf.old }
+    requires room { at + 10 * length (hits_in s part (run_of run s.hits)) ≤ length buf.old }
     ensures { Wrote buf.old buf.new at result (10 * length (hits_in s part (run_of run s.hits))) (joined (map hit_bytes (hits_in s part (run_of run s.hits)))) }
 {
     let hits = s.hits;
@@ -151,7 +151,7 @@ pub(crate) fn put_page_hits(buf: &mut [u8], at: usize, s: Score, h: HeardRuns) -
     requires writable { Writable s }
     requires hits_within { HitsWithin s h }
     requires count_bound { h.count ≤ 196 }
-    requires count_in_bounds { at + (3 + 10 * h.count) ≤ length buf.old }
+    requires room { at + (3 + 10 * h.count) ≤ length buf.old }
     ensures { Wrote buf.old buf.new at result (3 + 10 * h.count) (hits_field (run_hits s h)) }
 {
     let own = h.own;

@@ -72,7 +72,7 @@ impl Lane {
 // What both editions tell of a note.
 fn put_sound(buf: &mut [u8], at: usize, n: Note) -> usize
     requires finite_note { FiniteNote n }
-    requires at_in_bounds { at + 14 ≤ length buf.old }
+    requires room { at + 14 ≤ length buf.old }
     ensures { Wrote buf.old buf.new at result 14 (sound_bytes n) }
 {
     let a = put_u8(buf, at, n.bar);
@@ -85,7 +85,7 @@ fn put_sound(buf: &mut [u8], at: usize, n: Note) -> usize
 // A note in an edition.
 fn put_note(buf: &mut [u8], at: usize, edition: Edition, n: Note) -> usize
     requires finite_note { FiniteNote n }
-    requires edition_in_bounds { at + note_width edition ≤ length buf.old }
+    requires room { at + note_width edition ≤ length buf.old }
     ensures { Wrote buf.old buf.new at result (note_width edition) (note_bytes edition n) }
 {
     match edition {
@@ -101,7 +101,7 @@ fn put_note(buf: &mut [u8], at: usize, edition: Edition, n: Note) -> usize
 
 pub(crate) fn put_hit(buf: &mut [u8], at: usize, h: Hit) -> usize
     requires finite_hit { FiniteHit h }
-    requires at_in_bounds { at + 10 ≤ length buf.old }
+    requires room { at + 10 ≤ length buf.old }
     ensures { Wrote buf.old buf.new at result 10 (hit_bytes h) }
 {
     let kind = h.kind;
@@ -116,7 +116,7 @@ pub(crate) fn put_hit(buf: &mut [u8], at: usize, h: Hit) -> usize
 fn put_lead(buf: &mut [u8], at: usize, edition: Edition, s: Score, run: Run) -> usize
     requires writable { Writable s }
     requires in_lane { InLane s Lane.Lead run }
-    requires from_in_bounds { at + note_width edition * (run.to - run.from) ≤ length buf.old }
+    requires room { at + note_width edition * (run.to - run.from) ≤ length buf.old }
     ensures { Wrote buf.old buf.new at result (note_width edition * (run.to - run.from)) (joined (run_of run (events_of edition s Lane.Lead))) }
 {
     let lead = s.lead;
@@ -134,7 +134,7 @@ fn put_lead(buf: &mut [u8], at: usize, edition: Edition, s: Score, run: Run) -> 
 fn put_keys(buf: &mut [u8], at: usize, edition: Edition, s: Score, run: Run) -> usize
     requires writable { Writable s }
     requires in_lane { InLane s Lane.Keys run }
-    requires from_in_bounds { at + note_width edition * (run.to - run.from) ≤ length buf.old }
+    requires room { at + note_width edition * (run.to - run.from) ≤ length buf.old }
     ensures { Wrote buf.old buf.new at result (note_width edition * (run.to - run.from)) (joined (run_of run (events_of edition s Lane.Keys))) }
 {
     let keys = s.keys;
@@ -152,7 +152,7 @@ fn put_keys(buf: &mut [u8], at: usize, edition: Edition, s: Score, run: Run) -> 
 fn put_hits(buf: &mut [u8], at: usize, s: Score, run: Run) -> usize
     requires writable { Writable s }
     requires in_lane { InLane s Lane.Hits run }
-    requires from_in_bounds { at + 10 * (run.to - run.from) ≤ length buf.old }
+    requires room { at + 10 * (run.to - run.from) ≤ length buf.old }
     ensures { Wrote buf.old buf.new at result (10 * (run.to - run.from)) (joined (run_of run (map hit_bytes (take s.hit_count s.hits)))) }
 {
     let hits = s.hits;
@@ -170,7 +170,7 @@ fn put_hits(buf: &mut [u8], at: usize, s: Score, run: Run) -> usize
 fn put_bass(buf: &mut [u8], at: usize, edition: Edition, s: Score, run: Run) -> usize
     requires writable { Writable s }
     requires in_lane { InLane s Lane.Bass run }
-    requires from_in_bounds { at + note_width edition * (run.to - run.from) ≤ length buf.old }
+    requires room { at + note_width edition * (run.to - run.from) ≤ length buf.old }
     ensures { Wrote buf.old buf.new at result (note_width edition * (run.to - run.from)) (joined (run_of run (events_of edition s Lane.Bass))) }
 {
     let bass = s.bass;
@@ -188,7 +188,7 @@ fn put_bass(buf: &mut [u8], at: usize, edition: Edition, s: Score, run: Run) -> 
 fn put_events(buf: &mut [u8], at: usize, edition: Edition, s: Score, lane: Lane, run: Run) -> usize
     requires writable { Writable s }
     requires in_lane { InLane s lane run }
-    requires from_in_bounds { at + width_of edition lane * (run.to - run.from) ≤ length buf.old }
+    requires room { at + width_of edition lane * (run.to - run.from) ≤ length buf.old }
     ensures { Wrote buf.old buf.new at result (width_of edition lane * (run.to - run.from)) (joined (run_of run (events_of edition s lane))) }
 {
     match lane {
@@ -210,7 +210,7 @@ pub(crate) fn put_run(
 ) -> usize
     requires writable { Writable s }
     requires in_lane { InLane s lane run }
-    requires from_in_bounds { at + (3 + width_of edition lane * (run.to - run.from)) ≤ length buf.old }
+    requires room { at + (3 + width_of edition lane * (run.to - run.from)) ≤ length buf.old }
     ensures { Wrote buf.old buf.new at result (3 + width_of edition lane * (run.to - run.from)) (field (tag_of lane) (joined (run_of run (events_of edition s lane)))) }
 {
     let tag = lane.tag();

@@ -35,7 +35,7 @@ fn chord_size(on: bool) -> usize
 fn put_chord(buf: &mut [u8], at: usize, s: Score, on: bool, bar: u8) -> usize
     requires chorded { Chorded s }
     requires bar_bound { bar < 8 }
-    requires on_in_bounds { at + (3 + chord_size on) ≤ length buf.old }
+    requires room { at + (3 + chord_size on) ≤ length buf.old }
     ensures { Wrote buf.old buf.new at result (3 + chord_size on) (chord_field s on bar) }
 {
     if !on {
@@ -107,7 +107,7 @@ fn put_page(buf: &mut [u8], s: Score, p: Plays, runs: Runs, hits: HeardRuns, bar
     requires runs_value { runs ≡ runs_in s p bar }
     requires hits_within { HitsWithin s hits }
     requires count_bound { hits.count ≤ 196 }
-    requires count_in_bounds { page_size s p bar hits.count ≤ length buf.old }
+    requires room { page_size s p bar hits.count ≤ length buf.old }
     ensures { Wrote buf.old buf.new 0 result (page_size s p bar hits.count) (page_bytes s p bar (run_hits s hits)) }
 {
     let lead = runs.lead;

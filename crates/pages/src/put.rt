@@ -53,8 +53,8 @@ pub fn put_u64(buf: &mut [u8], at: usize, x: u64) -> usize
 
 // The bits of x, which is finite and so no NaN: nothing tests for one.
 pub fn put_f32(buf: &mut [u8], at: usize, x: f32) -> usize
-    requires t { T (finite x) }
-    requires at_in_bounds { at + 4 ≤ length buf.old }
+    requires finite { T (finite x) }
+    requires room { at + 4 ≤ length buf.old }
     ensures { Wrote buf.old buf.new at result 4 (f32_bytes x) }
 {
     put_u32(buf, at, f32::to_bits(x))
@@ -63,7 +63,7 @@ pub fn put_f32(buf: &mut [u8], at: usize, x: f32) -> usize
 // The head of a field: its tag and its body's length.
 pub fn put_head(buf: &mut [u8], at: usize, tag: u8, size: usize) -> usize
     requires size_bound { size < 65536 }
-    requires at_in_bounds { at + 3 ≤ length buf.old }
+    requires room { at + 3 ≤ length buf.old }
     ensures { Wrote buf.old buf.new at result 3 (head tag size) }
 {
     let a = put_u8(buf, at, tag);

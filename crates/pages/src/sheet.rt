@@ -37,7 +37,7 @@ fn put_name(buf: &mut [u8], at: usize, seed: u64, s: Score) -> usize
 // 0x02: tempo.
 fn put_tempo(buf: &mut [u8], at: usize, s: Score) -> usize
     requires finite_events { FiniteEvents s }
-    requires at_in_bounds { at + 7 ≤ length buf.old }
+    requires room { at + 7 ≤ length buf.old }
     ensures { Wrote buf.old buf.new at result 7 (tempo_field s) }
 {
     let a = put_head(buf, at, 0x02, 4);
@@ -73,7 +73,7 @@ fn put_chords(buf: &mut [u8], at: usize, s: Score) -> usize
 // 0x04: melody scale.
 fn put_scale(buf: &mut [u8], at: usize, scale: Scale) -> usize
     requires n_bound { scale.n ≤ 6 }
-    requires n_in_bounds { at + (3 + scale.n) ≤ length buf.old }
+    requires room { at + (3 + scale.n) ≤ length buf.old }
     ensures { Wrote buf.old buf.new at result (3 + scale.n) (scale_field scale) }
 {
     let pcs = scale.pcs;
@@ -86,7 +86,7 @@ fn put_scale(buf: &mut [u8], at: usize, scale: Scale) -> usize
 fn put_song(buf: &mut [u8], at: usize, seed: u64, s: Score, scale: Scale) -> usize
     requires finite_events { FiniteEvents s }
     requires n_bound { scale.n ≤ 6 }
-    requires n_in_bounds { at + (58 + scale.n) ≤ length buf.old }
+    requires room { at + (58 + scale.n) ≤ length buf.old }
     ensures { Wrote buf.old buf.new at result (58 + scale.n) (song_bytes seed s scale) }
 {
     let a = put_name(buf, at, seed, s);
@@ -99,7 +99,7 @@ fn put_song(buf: &mut [u8], at: usize, seed: u64, s: Score, scale: Scale) -> usi
 // both editions are written, and copy the score at each of four calls.
 fn put_lanes(buf: &mut [u8], at: usize, edition: Edition, s: Score) -> usize
     requires writable { Writable s }
-    requires s_in_bounds { at + lanes_size edition s ≤ length buf.old }
+    requires room { at + lanes_size edition s ≤ length buf.old }
     ensures { Wrote buf.old buf.new at result (lanes_size edition s) (lanes_bytes edition s) }
 {
     let lead = Run {
@@ -152,7 +152,7 @@ fn put_ends(buf: &mut [u8], at: usize, f: Form) -> usize
 // A byte for each bar of the song.
 fn put_bars(buf: &mut [u8], at: usize, f: Form) -> usize
     requires bars_bound { f.bars ≤ 64 }
-    requires bars_in_bounds { at + f.bars ≤ length buf.old }
+    requires room { at + f.bars ≤ length buf.old }
     ensures { Wrote buf.old buf.new at result f.bars (plays_bytes f) }
 {
     let plays = f.plays;
@@ -171,7 +171,7 @@ fn put_bars(buf: &mut [u8], at: usize, f: Form) -> usize
 // 0x0A: the layers of each bar.
 fn put_plays(buf: &mut [u8], at: usize, f: Form) -> usize
     requires bars_bound { f.bars ≤ 64 }
-    requires bars_in_bounds { at + (3 + f.bars) ≤ length buf.old }
+    requires room { at + (3 + f.bars) ≤ length buf.old }
     ensures { Wrote buf.old buf.new at result (3 + f.bars) (plays_field f) }
 {
     let a = put_head(buf, at, 0x0a, f.bars as usize);
@@ -181,7 +181,7 @@ fn put_plays(buf: &mut [u8], at: usize, f: Form) -> usize
 // The form.
 fn put_form(buf: &mut [u8], at: usize, f: Form) -> usize
     requires bars_bound { f.bars ≤ 64 }
-    requires bars_in_bounds { at + (12 + f.bars) ≤ length buf.old }
+    requires room { at + (12 + f.bars) ≤ length buf.old }
     ensures { Wrote buf.old buf.new at result (12 + f.bars) (form_bytes f) }
 {
     let a = put_ends(buf, at, f);
@@ -202,7 +202,7 @@ fn lane_size(edition: Edition, s: Score, lane: Lane) -> usize
 // Its length.
 pub fn sheet_size(edition: Edition, s: Score, scale: Scale, f: Form) -> usize
     requires sized_lanes { SizedLanes s }
-    requires n_bound { (scale.n ≤ 6) × (f.bars ≤ 64) }
+    requires capacities { (scale.n ≤ 6) × (f.bars ≤ 64) }
     ensures { result ≡ sheet_size edition s scale f }
 {
     let first = edition.field_size();
@@ -223,8 +223,8 @@ pub fn put_sheet(
     f: Form,
 ) -> usize
     requires writable { Writable s }
-    requires n_bound { (scale.n ≤ 6) × (f.bars ≤ 64) }
-    requires f_in_bounds { sheet_size edition s scale f ≤ length buf.old }
+    requires capacities { (scale.n ≤ 6) × (f.bars ≤ 64) }
+    requires room { sheet_size edition s scale f ≤ length buf.old }
     ensures { Wrote buf.old buf.new 0 result (sheet_size edition s scale f) (sheet_bytes edition seed s scale f) }
 {
     let z = put_edition(buf, 0, edition);
@@ -244,7 +244,7 @@ pub fn sheet_into(
 ) -> Written
     requires writable { Writable s }
     requires chorded { Chorded s }
-    requires n_bound { (scale.n ≤ 6) × (f.bars ≤ 64) }
+    requires capacities { (scale.n ≤ 6) × (f.bars ≤ 64) }
     ensures value { result ≡ written_of (length buf.old) (Writes (sheet_bytes edition seed s scale f)) }
     ensures buf_after { buf.new ≡ buffer_of buf.old (Writes (sheet_bytes edition seed s scale f)) }
 {

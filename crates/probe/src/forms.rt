@@ -172,7 +172,7 @@ pub fn probe_beatless(seed: u64, k: u8) -> u64
 // The counter of the form's stream after its draws.
 pub fn probe_form_counter(seed: u64) -> u64
     ensures value { result ≡ counter_of seed }
-    ensures value_2 { result ≡ 29 }
+    ensures draws { result ≡ 29 }
 {
     let s = Stage::Form.stream(seed);
     let d = decide(s);

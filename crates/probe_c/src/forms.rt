@@ -22,7 +22,7 @@ pub extern "C" fn probe_beatless(seed: u64, k: u8) -> u64
 #[unsafe(no_mangle)]
 pub extern "C" fn probe_form_counter(seed: u64) -> u64
     ensures value { result ≡ counter_of seed }
-    ensures value_2 { result ≡ 29 }
+    ensures draws { result ≡ 29 }
 {
     probe::forms::probe_form_counter(seed)
 }

@@ -108,7 +108,7 @@ module _ (style : Style) (seed : ℕ) where
     chords = record {
       size = song.chord_count;
       few = omega arith;
-      used = λ b h. record { size = song.range.chord_size_lem b h; notes = λ k j. omega (arith, (song.range.chords b k h j).most) };
+      used = λ b h. record { size = song.range.chord_size b h; notes = λ k j. omega (arith, (song.range.chords b k h j).most) };
       rest = λ i h k. absurd (omega arith);
     };
     lead = lane_padded song.lanes.lead (λ i h bar. note_value true _ bar (omega (arith, (song.range.lead i h).most)) (song.roles.lead i h) (song.plain.lead i h) (numbers.lead i h));
@@ -118,7 +118,7 @@ module _ (style : Style) (seed : ℕ) where
     classes = record { size = song.scale_size; few = song.scale_most; used = λ k h. song.scale_classes k; rest = λ k h j. song.scale_rest k h };
     classes_least = song.scale_least;
     phrases = form.phrases;
-    parts = sym form.«song-bars»;
+    parts = sym form.song_bars;
     plays = record { size = form.size; few = form.most; used = λ b h. tt; rest = λ b h k. form.rest b h };
   }
 

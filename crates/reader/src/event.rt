@@ -61,8 +61,8 @@ fn note_passes(bytes: &[u8], at: usize, edition: Edition, leads: bool) -> bool
 }
 
 fn note_at(bytes: &[u8], at: usize, edition: Edition, leads: bool) -> Note
-    requires edition_in_bounds { at + note_width edition ≤ length bytes.now }
-    requires at_value { note_within edition leads (note_at edition leads bytes.now at) ≡ true }
+    requires room { at + note_width edition ≤ length bytes.now }
+    requires within { note_within edition leads (note_at edition leads bytes.now at) ≡ true }
     ensures { result ≡ note_at edition leads bytes.now at }
 {
     let bar = byte_in(bytes, at);
@@ -92,8 +92,8 @@ fn hit_passes(bytes: &[u8], at: usize) -> bool
 }
 
 fn hit_at(bytes: &[u8], at: usize) -> Hit
-    requires at_in_bounds { at + 10 ≤ length bytes.now }
-    requires at_value { hit_within (hit_at bytes.now at) ≡ true }
+    requires room { at + 10 ≤ length bytes.now }
+    requires within { hit_within (hit_at bytes.now at) ≡ true }
     ensures { result ≡ hit_at bytes.now at }
 {
     let bar = byte_in(bytes, at);
@@ -137,7 +137,7 @@ pub(crate) fn hits_pass(bytes: &[u8], at: usize, n: usize) -> bool
 
 // The lanes: the first n entries, and zeros behind them.
 pub(crate) fn lead_at(bytes: &[u8], at: usize, n: usize, edition: Edition) -> [Note; 56]
-    requires n_in_bounds { (at + note_width edition * n ≤ length bytes.now) × (n ≤ 56) }
+    requires room { (at + note_width edition * n ≤ length bytes.now) × (n ≤ 56) }
     requires n_value { notes_pass edition true bytes.now at n ≡ true }
     ensures { result ≡ pad no_note 56 (notes_at edition true bytes.now at n) }
 {
@@ -152,7 +152,7 @@ pub(crate) fn lead_at(bytes: &[u8], at: usize, n: usize, edition: Edition) -> [N
 }
 
 pub(crate) fn keys_at(bytes: &[u8], at: usize, n: usize, edition: Edition) -> [Note; 128]
-    requires n_in_bounds { (at + note_width edition * n ≤ length bytes.now) × (n ≤ 128) }
+    requires room { (at + note_width edition * n ≤ length bytes.now) × (n ≤ 128) }
     requires n_value { notes_pass edition false bytes.now at n ≡ true }
     ensures { result ≡ pad no_note 128 (notes_at edition false bytes.now at n) }
 {
@@ -167,7 +167,7 @@ pub(crate) fn keys_at(bytes: &[u8], at: usize, n: usize, edition: Edition) -> [N
 }
 
 pub(crate) fn hits_at(bytes: &[u8], at: usize, n: usize) -> [Hit; 98]
-    requires n_in_bounds { (at + 10 * n ≤ length bytes.now) × (n ≤ 98) }
+    requires room { (at + 10 * n ≤ length bytes.now) × (n ≤ 98) }
     requires n_value { hits_pass bytes.now at n ≡ true }
     ensures { result ≡ pad no_hit 98 (hits_at bytes.now at n) }
 {
@@ -181,7 +181,7 @@ pub(crate) fn hits_at(bytes: &[u8], at: usize, n: usize) -> [Hit; 98]
 }
 
 pub(crate) fn bass_at(bytes: &[u8], at: usize, n: usize, edition: Edition) -> [Note; 104]
-    requires n_in_bounds { (at + note_width edition * n ≤ length bytes.now) × (n ≤ 104) }
+    requires room { (at + note_width edition * n ≤ length bytes.now) × (n ≤ 104) }
     requires n_value { notes_pass edition false bytes.now at n ≡ true }
     ensures { result ≡ pad no_note 104 (notes_at edition false bytes.now at n) }
 {

@@ -35,8 +35,8 @@ fn score_passes(bytes: &[u8], l: Layout) -> bool
 
 // 0x09 and how long 0x0A is: so many bars.
 fn form_passes(bytes: &[u8], at: usize, bars: usize) -> bool
-    requires at_in_bounds { at + 6 ≤ length bytes.now }
-    requires at_value { (at ≡ body_at bytes.now 8) × (bars ≡ size_at bytes.now 9) }
+    requires room { at + 6 ≤ length bytes.now }
+    requires places { (at ≡ body_at bytes.now 8) × (bars ≡ size_at bytes.now 9) }
     ensures { result ≡ form_within (form_in bytes.now) }
 {
     let intro_code = byte_in(bytes, at);

@@ -65,7 +65,7 @@ pub(crate) fn chords_from(bytes: &[u8], at: usize) -> [Chord; 8]
 }
 
 pub(crate) fn scale_at(bytes: &[u8], at: usize, n: usize) -> Scale
-    requires n_in_bounds { at + n ≤ length bytes.now }
+    requires room { at + n ≤ length bytes.now }
     requires n_bound { n ≤ 6 }
     ensures { result ≡ scale_at bytes.now at n }
 {
@@ -81,7 +81,7 @@ pub(crate) fn scale_at(bytes: &[u8], at: usize, n: usize) -> Scale
 fn score_in(bytes: &[u8], l: Layout) -> Score
     requires l_value { l ≡ layout_of bytes.now }
     requires roomy { Roomy bytes.now }
-    requires bytes_value { score_within (edition_in bytes.now) (score_in bytes.now) ≡ true }
+    requires within { score_within (edition_in bytes.now) (score_in bytes.now) ≡ true }
     ensures { result ≡ score_in bytes.now }
 {
     let at = l.bodies;
@@ -119,7 +119,7 @@ fn score_in(bytes: &[u8], l: Layout) -> Score
 
 // The layers of n bars, a byte each.
 fn plays_from(bytes: &[u8], at: usize, n: usize) -> [Plays; 64]
-    requires n_in_bounds { at + n ≤ length bytes.now }
+    requires room { at + n ≤ length bytes.now }
     requires n_bound { n ≤ 64 }
     ensures { result ≡ pad silent 64 (plays_from bytes.now at n) }
 {
@@ -164,7 +164,7 @@ fn form_in(bytes: &[u8], l: Layout) -> Form
 pub(crate) fn song_in(bytes: &[u8], l: Layout) -> Song
     requires l_value { l ≡ layout_of bytes.now }
     requires roomy { Roomy bytes.now }
-    requires bytes_value { within (song_in bytes.now) ≡ true }
+    requires within { within (song_in bytes.now) ≡ true }
     ensures { result ≡ song_in bytes.now }
 {
     let at = l.bodies;

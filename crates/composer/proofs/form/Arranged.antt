@@ -90,16 +90,16 @@ module _ (seed : ℕ) where
       record {
         draws = decide_counter seed;
         phrases = (least, most);
-        «intro-bars» = end_bars_is (intro_of d.opening d.long_intro);
-        «outro-bars» = outro_length_is (outro_of d.closing d.long_outro);
-        «song-bars» = refl;
+        intro_bars = end_bars_is (intro_of d.opening d.long_intro);
+        outro_bars = outro_length_is (outro_of d.closing d.long_outro);
+        song_bars = refl;
         most = arranged_bars seed;
         size = length_pad silent 64 (list_to (song_bar_of d (intro_length d)) (song_length d)) (omega (arith, length_list_to (song_bar_of d (intro_length d)) (song_length d), arranged_bars seed));
         rest = λ b h. pad_past silent 64 (list_to (song_bar_of d (intro_length d)) (song_length d)) b (omega (arith, length_list_to (song_bar_of d (intro_length d)) (song_length d), h));
         found = λ b h. (get_or f.plays b silent, found_at b h);
-        «over-pad» = bass_over;
+        over_pad = bass_over;
         body = body;
-        «before-break» = λ whole. strikes_at (λ p. p.drums) (8 * (P / 2) - 1) (omega arith) (bar_before_break d (8 * (P / 2) - 1) whole (omega arith));
-        «drums-back» = drums_back;
+        before_break = λ whole. strikes_at (λ p. p.drums) (8 * (P / 2) - 1) (omega arith) (bar_before_break d (8 * (P / 2) - 1) whole (omega arith));
+        drums_back = drums_back;
         dip = dip_dropped d;
       }

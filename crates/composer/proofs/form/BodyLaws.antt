@@ -86,11 +86,11 @@ worst_promise t whole low P l m =
     let counts = and_yes (leb (lacking (drums_at d) (8 * P) + 4) (3 * P)) (leb (lacking (bass_at d) (8 * P) + 1) (3 * P)) parts.1 in
     record {
       chords = λ b h. refl;
-      «drums-running» = runs_at_most 8 (drums_at d) (8 * P) (windows_among 9 (drums_at d) (8 * P) runs.0);
-      «bass-running» = runs_at_most 11 (bass_at d) (8 * P) (windows_among 12 (bass_at d) (8 * P) low-runs.0);
+      drums_running = runs_at_most 8 (drums_at d) (8 * P) (windows_among 9 (drums_at d) (8 * P) runs.0);
+      bass_running = runs_at_most 11 (bass_at d) (8 * P) (windows_among 12 (bass_at d) (8 * P) low-runs.0);
       together = windows_among 12 (both_at d) (8 * P) low-runs.1;
-      «drums-in-all» = leb→le (lacking (drums_at d) (8 * P) + 4) (3 * P) counts.0;
-      «bass-in-all» = leb→le (lacking (bass_at d) (8 * P) + 1) (3 * P) counts.1;
+      drums_in_all = leb→le (lacking (drums_at d) (8 * P) + 4) (3 * P) counts.0;
+      bass_in_all = leb→le (lacking (bass_at d) (8 * P) + 1) (3 * P) counts.1;
     }
 
 -- ---- each body mutes a part of the worst

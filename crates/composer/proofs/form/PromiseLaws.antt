@@ -19,9 +19,9 @@ module _ (P : ℕ) (chord drums bass chord' drums' bass' : ℕ → Bool) where
   pub promise_more : Also P chord chord' → Also P drums drums' → Also P bass bass' → BodyPromise P chord drums bass → BodyPromise P chord' drums' bass'
   promise_more c d s p = record {
     chords = λ b h. c b h (p.chords b h);
-    «drums-running» = runs_more drums drums' (8 * P) d 8 p.«drums-running»;
-    «bass-running» = runs_more bass bass' (8 * P) s 11 p.«bass-running»;
+    drums_running = runs_more drums drums' (8 * P) d 8 p.drums_running;
+    bass_running = runs_more bass bass' (8 * P) s 11 p.bass_running;
     together = λ b h. among_more (λ k. drums k && bass k) (λ k. drums' k && bass' k) (8 * P) (both_more P drums drums' bass bass' d s) b 12 h (p.together b h);
-    «drums-in-all» = omega (arith, lacking_fewer drums drums' (8 * P) d, p.«drums-in-all»);
-    «bass-in-all» = omega (arith, lacking_fewer bass bass' (8 * P) s, p.«bass-in-all»);
+    drums_in_all = omega (arith, lacking_fewer drums drums' (8 * P) d, p.drums_in_all);
+    bass_in_all = omega (arith, lacking_fewer bass bass' (8 * P) s, p.bass_in_all);
   }

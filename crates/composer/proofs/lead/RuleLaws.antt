@@ -313,7 +313,7 @@ module _ (s : NoiseStream) (h : Harmony) (tonal : Tonal h) (style : Style) (beat
         bar = k;
         place = i;
         in_loop = a;
-        in_bar_lem = b;
+        in_bar = b;
         stands = refl;
         of_bar = kept.0 ∙ rule.bar;
         role =

@@ -19,13 +19,13 @@ use Rattle.composer.specs.declared.form.plays.Plays.{Plays}
 pub record BodyPromise (P : ℕ) (chord drums bass : ℕ → Bool) : Type 0 where
   pub chords : (b : ℕ) → b < 8 * P → chord b ≡ true
   -- wherever one starts, at most 8 running lack drums, and at most 11 bass
-  pub «drums-running» : RunsAtMost 8 drums (8 * P)
-  pub «bass-running» : RunsAtMost 11 bass (8 * P)
+  pub drums_running : RunsAtMost 8 drums (8 * P)
+  pub bass_running : RunsAtMost 11 bass (8 * P)
   -- any 12 running include one with drums and bass
   pub together : (b : ℕ) → b + 12 ≤ 8 * P → Among b 12 (λ k. drums k && bass k)
   -- and in all
-  pub «drums-in-all» : lacking drums (8 * P) + 4 ≤ 3 * P
-  pub «bass-in-all» : lacking bass (8 * P) + 1 ≤ 3 * P
+  pub drums_in_all : lacking drums (8 * P) + 4 ≤ 3 * P
+  pub bass_in_all : lacking bass (8 * P) + 1 ≤ 3 * P
 
 -- what `plays` answers of song bar b, as document 01 has it
 abbrev pub plays_at : Form → ℕ → Answer Plays
@@ -43,9 +43,9 @@ body_strikes f layer b = strikes layer (plays_at f (intro_bars_of f + b))
 pub record FormPromise (seed : ℕ) (f : Form) : Type 0 where
   pub draws : (decide_of (stream_of Stage.Form seed)).stream.counter ≡ 29
   pub phrases : (4 ≤ f.phrases) × (f.phrases ≤ 6)
-  pub «intro-bars» : (intro_bars_of f ≡ 0) ⊎ ((intro_bars_of f ≡ 4) ⊎ (intro_bars_of f ≡ 8))
-  pub «outro-bars» : (outro_bars_of f ≡ 0) ⊎ ((outro_bars_of f ≡ 2) ⊎ ((outro_bars_of f ≡ 4) ⊎ (outro_bars_of f ≡ 8)))
-  pub «song-bars» : f.bars ≡ intro_bars_of f + 8 * f.phrases + outro_bars_of f
+  pub intro_bars : (intro_bars_of f ≡ 0) ⊎ ((intro_bars_of f ≡ 4) ⊎ (intro_bars_of f ≡ 8))
+  pub outro_bars : (outro_bars_of f ≡ 0) ⊎ ((outro_bars_of f ≡ 2) ⊎ ((outro_bars_of f ≡ 4) ⊎ (outro_bars_of f ≡ 8)))
+  pub song_bars : f.bars ≡ intro_bars_of f + 8 * f.phrases + outro_bars_of f
   pub most : f.bars ≤ 64
   pub size : length f.plays ≡ 64
   -- nothing plays past the song
@@ -53,12 +53,12 @@ pub record FormPromise (seed : ℕ) (f : Form) : Type 0 where
   -- no bar of the song is refused
   pub found : (b : ℕ) → b < f.bars → (p : Plays) × (plays_at f b ≡ Gives p)
   -- wherever the bass plays, the pad has its chord
-  pub «over-pad» : (b : ℕ) → b < f.bars → strikes (λ p. p.bass) (plays_at f b) ≡ true → strikes (λ p. p.pad) (plays_at f b) ≡ true
+  pub over_pad : (b : ℕ) → b < f.bars → strikes (λ p. p.bass) (plays_at f b) ≡ true → strikes (λ p. p.pad) (plays_at f b) ≡ true
   pub body : BodyPromise f.phrases (body_strikes f (λ p. p.pad)) (body_strikes f (λ p. p.drums)) (body_strikes f (λ p. p.bass))
   -- a whole break is not preceded by a cut: the bar before it has drums
-  pub «before-break» : whole_break (decisions_of seed) ≡ true → body_strikes f (λ p. p.drums) (8 * (f.phrases / 2) - 1) ≡ true
+  pub before_break : whole_break (decisions_of seed) ≡ true → body_strikes f (λ p. p.drums) (8 * (f.phrases / 2) - 1) ≡ true
   -- drums that come back do so at loop bar 0
-  pub «drums-back» : (b : ℕ) → b + 1 < f.bars → strikes (λ p. p.drums) (plays_at f b) ≡ false → strikes (λ p. p.drums) (plays_at f (b + 1)) ≡ true → loop_bar_of f (b + 1) ≡ 0
+  pub drums_back : (b : ℕ) → b + 1 < f.bars → strikes (λ p. p.drums) (plays_at f b) ≡ false → strikes (λ p. p.drums) (plays_at f (b + 1)) ≡ true → loop_bar_of f (b + 1) ≡ 0
   -- the dip is dropped where phrase 1 was cut
   pub dip : cut_heard (decisions_of seed) 1 ≡ true → f.dip ≡ false
 

@@ -82,7 +82,7 @@ pub record ToldAt (s : NoiseStream) (h : Harmony) (style : Style) (notes : List 
   pub bar : ℕ
   pub place : ℕ
   pub in_loop : bar < 8
-  pub in_bar_lem : place < notes_of_bar (song_beats s style) bar
+  pub in_bar : place < notes_of_bar (song_beats s style) bar
   pub stands : n ≡ notes_before (song_beats s style) bar + place
   pub of_bar : (get_or notes n past_note).bar ≡ bar
   pub role : (get_or notes n past_note).role

@@ -6,7 +6,7 @@ use Rattle.editions.proofs.convert.held_into.Goals as goal
 pub is_own-own-requires : goal.is_own-own-requires
 is_own-own-requires c =
     let v = c.args.v in
-    record { promised = composed_promised v c.number-number.ensures c.compose-song.ensures; song_in_bounds = composed_most v c.number-number.ensures c.compose-song.ensures v.edition }
+    record { promised = composed_promised v c.number-number.ensures c.compose-song.ensures; fits = composed_most v c.number-number.ensures c.compose-song.ensures v.edition }
 
 pub returns-then-not-own : goal.returns-then-not-own
 returns-then-not-own c =

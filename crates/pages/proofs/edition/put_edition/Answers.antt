@@ -5,7 +5,7 @@ use Rattle.pages.specs.Bytes.{field}
 use Rattle.pages.proofs.edition.put_edition.Goals as goal
 
 pub put_head-a-requires : goal.put_head-a-requires
-put_head-a-requires c = record { size_bound = omega arith; at_in_bounds = omega (arith, rw c.in-Two.is at c.requires) }
+put_head-a-requires c = record { size_bound = omega arith; room = omega (arith, rw c.in-Two.is at c.requires) }
 
 pub put_u8-requires : goal.put_u8-requires
 put_u8-requires c =

@@ -8,13 +8,13 @@ pub put_part-b-requires : goal.put_part-b-requires
 put_part-b-requires c =
     let w = c.put_head-a.ensures in
     let q = c.requires.hits_within in
-    record { writable = c.requires.writable; in_lane = q.own; hits_in_bounds = omega (arith, w.next, wrote_length w, parts_count c.args.s c.args.h q, c.requires.count_in_bounds) }
+    record { writable = c.requires.writable; in_lane = q.own; room = omega (arith, w.next, wrote_length w, parts_count c.args.s c.args.h q, c.requires.room) }
 
 pub put_part-requires : goal.put_part-requires
 put_part-requires c =
     let q = c.requires.hits_within in
     let w = wrote_then c.put_head-a.ensures c.put_part-b.ensures in
-    record { writable = c.requires.writable; in_lane = q.next; hits_in_bounds = omega (arith, w.next, wrote_length w, parts_count c.args.s c.args.h q, c.requires.count_in_bounds) }
+    record { writable = c.requires.writable; in_lane = q.next; room = omega (arith, w.next, wrote_length w, parts_count c.args.s c.args.h q, c.requires.room) }
 
 pub returns : goal.returns
 returns c =

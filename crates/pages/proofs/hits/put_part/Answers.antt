@@ -28,10 +28,10 @@ put_shown-o-requires c =
     let l = c.loop-i in
     let p = c.requires.writable.lanes.hits in
     let test = in_part c.args.part c.beat_s_of-beat_s.result in
-    let most : c.args.at + 10 * length (filter_of test (take (c.args.run.to - c.args.run.from) (drop c.args.run.from c.args.s.hits))) ≤ length c.args.buf.now = rw c.beat_s_of-beat_s.ensures c.requires.hits_in_bounds in
+    let most : c.args.at + 10 * length (filter_of test (take (c.args.run.to - c.args.run.from) (drop c.args.run.from c.args.s.hits))) ≤ length c.args.buf.now = rw c.beat_s_of-beat_s.ensures c.requires.room in
     let more = filter_run_count test c.args.s.hits c.args.run.from l.i past_hit l.invariant.0 (omega (arith, p.few, p.size)) in
     let fewer = filter_fewer test (drop c.args.run.from c.args.s.hits) (l.i + 1 - c.args.run.from) (c.args.run.to - c.args.run.from) (omega arith) in
-    record { finite_hit = c.requires.writable.numbers.hits l.i (omega arith); on_in_bounds = rw c.in_part-on.ensures (omega (arith, l.invariant.3.next, more, fewer, most)) }
+    record { finite_hit = c.requires.writable.numbers.hits l.i (omega arith); room = rw c.in_part-on.ensures (omega (arith, l.invariant.3.next, more, fewer, most)) }
 
 pub overflow_add-i : goal.overflow_add-i
 overflow_add-i c = omega (arith, c.requires.writable.lanes.hits.few)

@@ -8,7 +8,7 @@ returns-then-not-on c =
     rw c.if-not-on.true (wrote_none c.args.buf.now c.args.at (omega arith))
 
 pub put_hit-requires : goal.put_hit-requires
-put_hit-requires c = record { finite_hit = c.requires.finite_hit; at_in_bounds = omega (arith, rw c.if-not-on.false at c.requires.on_in_bounds) }
+put_hit-requires c = record { finite_hit = c.requires.finite_hit; room = omega (arith, rw c.if-not-on.false at c.requires.room) }
 
 pub returns : goal.returns
 returns c = rw c.if-not-on.false c.put_hit.ensures

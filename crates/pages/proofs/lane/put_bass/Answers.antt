@@ -30,7 +30,7 @@ put_note-o-requires c =
     let r = c.args.run in
     let p = c.requires.writable.lanes.bass in
     let w = l.invariant.3 c.args.s.bass_count c.requires.in_lane.1 (omega (arith, p.few, p.size)) in
-    record { finite_note = c.requires.writable.numbers.bass l.i (omega arith); edition_in_bounds = omega (arith, w.next, times_fits (note_width c.args.edition) r.from l.i l.invariant.0 r.to (omega arith)) }
+    record { finite_note = c.requires.writable.numbers.bass l.i (omega arith); room = omega (arith, w.next, times_fits (note_width c.args.edition) r.from l.i l.invariant.0 r.to (omega arith)) }
 
 pub overflow_add-i : goal.overflow_add-i
 overflow_add-i c = omega (arith, c.requires.writable.lanes.bass.few)

@@ -28,7 +28,7 @@ put_hit-o-requires c =
     let r = c.args.run in
     let p = c.requires.writable.lanes.hits in
     let w = l.invariant.3 c.args.s.hit_count c.requires.in_lane.1 (omega (arith, p.few, p.size)) in
-    record { finite_hit = c.requires.writable.numbers.hits l.i (omega arith); at_in_bounds = omega (arith, w.next, times_fits 10 r.from l.i l.invariant.0 r.to (omega arith)) }
+    record { finite_hit = c.requires.writable.numbers.hits l.i (omega arith); room = omega (arith, w.next, times_fits 10 r.from l.i l.invariant.0 r.to (omega arith)) }
 
 pub overflow_add-i : goal.overflow_add-i
 overflow_add-i c = omega (arith, c.requires.writable.lanes.hits.few)

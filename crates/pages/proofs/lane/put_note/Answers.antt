@@ -8,15 +8,15 @@ use Rattle.pages.specs.Lane.{sound_bytes, note_bytes}
 use Rattle.pages.proofs.lane.put_note.Goals as goal
 
 pub put_sound-requires : goal.put_sound-requires
-put_sound-requires c = record { finite_note = c.requires.finite_note; at_in_bounds = rw c.in-One.is at c.requires.edition_in_bounds }
+put_sound-requires c = record { finite_note = c.requires.finite_note; room = rw c.in-One.is at c.requires.room }
 
 pub put_sound-a-requires : goal.put_sound-a-requires
-put_sound-a-requires c = record { finite_note = c.requires.finite_note; at_in_bounds = omega (arith, rw c.in-Two.is at c.requires.edition_in_bounds) }
+put_sound-a-requires c = record { finite_note = c.requires.finite_note; room = omega (arith, rw c.in-Two.is at c.requires.room) }
 
 pub put_u8-requires : goal.put_u8-requires
 put_u8-requires c =
     let w = c.put_sound-a.ensures in
-    omega (arith, w.next, wrote_length w, rw c.in-Two.is at c.requires.edition_in_bounds)
+    omega (arith, w.next, wrote_length w, rw c.in-Two.is at c.requires.room)
 
 pub returns-in-One : goal.returns-in-One
 unfolding note_bytes

@@ -16,7 +16,7 @@ overflow_mul-width c =
 pub put_head-a-requires : goal.put_head-a-requires
 put_head-a-requires c =
     let r = c.args.run in
-    rw c.width-width.ensures (record { size_bound = run_small c.args.s c.requires.writable.lanes c.args.edition c.args.lane (r.to - r.from) (omega arith); at_in_bounds = omega arith })
+    rw c.width-width.ensures (record { size_bound = run_small c.args.s c.requires.writable.lanes c.args.edition c.args.lane (r.to - r.from) (omega arith); room = omega arith })
 
 pub returns : goal.returns
 unfolding field

@@ -15,7 +15,7 @@ pub page_of-requires : goal.page_of-requires
 page_of-requires c =
     let e = c.compose-song.ensures in
     let p = done_promise c.args.style c.args.seed (ap (λ (x : Composed). x.outcome) (sym e) ∙ c.in-Done.is) in
-    rw e (record { paged = paged (compose_of c.args.style c.args.seed).score (events_promise p); chorded = p.range.chord_size_lem })
+    rw e (record { paged = paged (compose_of c.args.style c.args.seed).score (events_promise p); chorded = p.range.chord_size })
 
 pub returns-in-Refused : goal.returns-in-Refused
 unfolding page_asked

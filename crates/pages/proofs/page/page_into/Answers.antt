@@ -31,7 +31,7 @@ pub put_page-n-requires : goal.put_page-n-requires
 put_page-n-requires c =
     let size = size_is c.args.s c.requires.paged.lanes c.args.p c.args.f c.args.bar c.loop_bar-looped.ensures.value c.runs_in-runs.ensures c.heard_runs-hits.ensures.value c.page_size-size.ensures in
     let within : HitsWithin c.args.s c.heard_runs-hits.result = rw c.heard_runs-hits.ensures.value (hits_within_lem c.args.s c.requires.paged.lanes c.args.f c.args.bar) in
-    record { paged = c.requires.paged; chorded = c.requires.chorded; bar_bound = c.loop_bar-looped.ensures.upper_bound; runs_value = c.runs_in-runs.ensures; hits_within = within; count_bound = c.heard_runs-hits.ensures.count_bound; count_in_bounds = rw (c.loop_bar-looped.ensures.value, c.heard_runs-hits.ensures.value) (omega (arith, ltb-false, size)) }
+    record { paged = c.requires.paged; chorded = c.requires.chorded; bar_bound = c.loop_bar-looped.ensures.upper_bound; runs_value = c.runs_in-runs.ensures; hits_within = within; count_bound = c.heard_runs-hits.ensures.count_bound; room = rw (c.loop_bar-looped.ensures.value, c.heard_runs-hits.ensures.value) (omega (arith, ltb-false, size)) }
 
 pub returns : goal.returns
 returns c =

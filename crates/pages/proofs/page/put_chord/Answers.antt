@@ -22,7 +22,7 @@ pub put_bytes-requires : goal.put_bytes-requires
 put_bytes-requires c =
     let on : c.args.on ≡ true = c.if-not-on.false in
     let four = chord_notes c.args.s c.requires.chorded c.args.bar c.requires.bar_bound in
-    rw c.bar_chords-chords.ensures (omega (arith, rw on at c.requires.on_in_bounds))
+    rw c.bar_chords-chords.ensures (omega (arith, rw on at c.requires.room))
 
 pub returns : goal.returns
 unfolding field

@@ -23,24 +23,24 @@ pub put_run-b-requires : goal.put_run-b-requires
 put_run-b-requires c =
     let w = wrote_then c.put_edition-z.ensures c.put_chord-a.ensures in
     let f = run_fits c.args.s c.requires.paged.lanes Lane.Lead c.args.p.keys c.args.bar c.args.runs.lead (lead_is (goal.at.put_run-b-requires c).Start) in
-    record { writable = c.requires.paged.writable; in_lane = f.0; from_in_bounds = omega (arith, w.next, wrote_length w, f.1, c.requires.count_in_bounds) }
+    record { writable = c.requires.paged.writable; in_lane = f.0; room = omega (arith, w.next, wrote_length w, f.1, c.requires.room) }
 
 pub put_run-c-requires : goal.put_run-c-requires
 put_run-c-requires c =
     let w = wrote_then c.put_edition-z.ensures (wrote_then c.put_chord-a.ensures (run_wrote c.args.s c.requires.paged.lanes Lane.Lead c.args.p.keys c.args.bar c.args.runs.lead (lead_is (goal.at.put_run-c-requires c).Start) c.put_run-b.ensures)) in
     let f = run_fits c.args.s c.requires.paged.lanes Lane.Keys c.args.p.keys c.args.bar c.args.runs.keys (keys_is (goal.at.put_run-c-requires c).Start) in
-    record { writable = c.requires.paged.writable; in_lane = f.0; from_in_bounds = omega (arith, w.next, wrote_length w, f.1, c.requires.count_in_bounds) }
+    record { writable = c.requires.paged.writable; in_lane = f.0; room = omega (arith, w.next, wrote_length w, f.1, c.requires.room) }
 
 pub put_page_hits-d-requires : goal.put_page_hits-d-requires
 put_page_hits-d-requires c =
     let w = wrote_then c.put_edition-z.ensures (wrote_then c.put_chord-a.ensures (wrote_then (run_wrote c.args.s c.requires.paged.lanes Lane.Lead c.args.p.keys c.args.bar c.args.runs.lead (lead_is (goal.at.put_page_hits-d-requires c).Start) c.put_run-b.ensures) (run_wrote c.args.s c.requires.paged.lanes Lane.Keys c.args.p.keys c.args.bar c.args.runs.keys (keys_is (goal.at.put_page_hits-d-requires c).Start) c.put_run-c.ensures))) in
-    record { writable = c.requires.paged.writable; hits_within = c.requires.hits_within; count_bound = c.requires.count_bound; count_in_bounds = omega (arith, w.next, wrote_length w, c.requires.count_in_bounds) }
+    record { writable = c.requires.paged.writable; hits_within = c.requires.hits_within; count_bound = c.requires.count_bound; room = omega (arith, w.next, wrote_length w, c.requires.room) }
 
 pub put_run-requires : goal.put_run-requires
 put_run-requires c =
     let w = wrote_then c.put_edition-z.ensures (wrote_then c.put_chord-a.ensures (wrote_then (run_wrote c.args.s c.requires.paged.lanes Lane.Lead c.args.p.keys c.args.bar c.args.runs.lead (lead_is (goal.at.put_run-requires c).Start) c.put_run-b.ensures) (wrote_then (run_wrote c.args.s c.requires.paged.lanes Lane.Keys c.args.p.keys c.args.bar c.args.runs.keys (keys_is (goal.at.put_run-requires c).Start) c.put_run-c.ensures) c.put_page_hits-d.ensures))) in
     let f = run_fits c.args.s c.requires.paged.lanes Lane.Bass c.args.p.bass c.args.bar c.args.runs.bass (bass_is (goal.at.put_run-requires c).Start) in
-    record { writable = c.requires.paged.writable; in_lane = f.0; from_in_bounds = omega (arith, w.next, wrote_length w, f.1, c.requires.count_in_bounds) }
+    record { writable = c.requires.paged.writable; in_lane = f.0; room = omega (arith, w.next, wrote_length w, f.1, c.requires.room) }
 
 pub returns : goal.returns
 unfolding page_bytes

@@ -7,7 +7,7 @@ use Rattle.pages.proofs.sheet.composed_into.Goals as goal
 pub sheet_into-requires : goal.sheet_into-requires
 sheet_into-requires c =
     let promise = c.requires c.in-Done.is in
-    rw c.arrange-form.ensures (record { writable = writable c.args.song.score (events_promise promise); chorded = promise.range.chord_size_lem; n_bound = (promise.scale_most, (arranged_promise c.args.seed).most) })
+    rw c.arrange-form.ensures (record { writable = writable c.args.song.score (events_promise promise); chorded = promise.range.chord_size; capacities = (promise.scale_most, (arranged_promise c.args.seed).most) })
 
 pub returns-in-Refused : goal.returns-in-Refused
 returns-in-Refused c =

@@ -19,20 +19,20 @@ asked {s} lane at w p h = (p, ((omega arith, omega arith), rw (sub-zero (count_i
 
 pub put_run-a-requires : goal.put_run-a-requires
 put_run-a-requires c = let all = asked Lane.Lead c.args.at (note_width c.args.edition) c.requires.writable (omega arith) in
-    record { writable = all.0; in_lane = all.1.0; from_in_bounds = all.1.1 }
+    record { writable = all.0; in_lane = all.1.0; room = all.1.1 }
 
 pub put_run-b-requires : goal.put_run-b-requires
 put_run-b-requires c =
     let w1 = lane_wrote c.args.s c.requires.writable.lanes c.args.edition Lane.Lead c.put_run-a.ensures in
     let all = asked Lane.Keys c.put_run-a.result (note_width c.args.edition) c.requires.writable (omega (arith, w1.next, wrote_length w1)) in
-    record { writable = all.0; in_lane = all.1.0; from_in_bounds = all.1.1 }
+    record { writable = all.0; in_lane = all.1.0; room = all.1.1 }
 
 pub put_run-c-requires : goal.put_run-c-requires
 put_run-c-requires c =
     let w1 = lane_wrote c.args.s c.requires.writable.lanes c.args.edition Lane.Lead c.put_run-a.ensures in
     let w2 = lane_wrote c.args.s c.requires.writable.lanes c.args.edition Lane.Keys c.put_run-b.ensures in
     let all = asked Lane.Hits c.put_run-b.result 10 c.requires.writable (omega (arith, w1.next, wrote_length w1, w2.next, wrote_length w2)) in
-    record { writable = all.0; in_lane = all.1.0; from_in_bounds = all.1.1 }
+    record { writable = all.0; in_lane = all.1.0; room = all.1.1 }
 
 pub put_run-requires : goal.put_run-requires
 put_run-requires c =
@@ -40,7 +40,7 @@ put_run-requires c =
     let w2 = lane_wrote c.args.s c.requires.writable.lanes c.args.edition Lane.Keys c.put_run-b.ensures in
     let w3 = lane_wrote c.args.s c.requires.writable.lanes c.args.edition Lane.Hits c.put_run-c.ensures in
     let all = asked Lane.Bass c.put_run-c.result (note_width c.args.edition) c.requires.writable (omega (arith, w1.next, wrote_length w1, w2.next, wrote_length w2, w3.next, wrote_length w3)) in
-    record { writable = all.0; in_lane = all.1.0; from_in_bounds = all.1.1 }
+    record { writable = all.0; in_lane = all.1.0; room = all.1.1 }
 
 pub returns : goal.returns
 unfolding lanes_bytes

@@ -8,4 +8,4 @@ pub returns : goal.returns
 returns c =
     let seed = c.args.seed in
     let e : c.decide-d.result.stream.counter ≡ counter_of seed = rw (c.decide-d.ensures, c.stream-s.ensures) in
-    record { value = e; value_2 = e ∙ decide_counter seed }
+    record { value = e; draws = e ∙ decide_counter seed }

@@ -6,11 +6,11 @@ use Rattle.reader.proofs.event.hit_at.Goals as goal
 
 pub f32_at-time-requires : goal.f32_at-time-requires
 unfolding hit_at
-f32_at-time-requires c = record { at_in_bounds = omega arith; t = (hit_told (hit_at c.args.bytes.now c.args.at) c.requires.at_value).2.at }
+f32_at-time-requires c = record { room = omega arith; finite = (hit_told (hit_at c.args.bytes.now c.args.at) c.requires.within).2.at }
 
 pub f32_at-gain-requires : goal.f32_at-gain-requires
 unfolding hit_at
-f32_at-gain-requires c = record { at_in_bounds = omega arith; t = (hit_told (hit_at c.args.bytes.now c.args.at) c.requires.at_value).2.gain }
+f32_at-gain-requires c = record { room = omega arith; finite = (hit_told (hit_at c.args.bytes.now c.args.at) c.requires.within).2.gain }
 
 pub returns : goal.returns
 unfolding hit_at

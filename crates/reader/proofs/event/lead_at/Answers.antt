@@ -20,19 +20,19 @@ loop-i-init c =
 pub overflow_mul-width : goal.overflow_mul-width
 overflow_mul-width c =
     let w = c.note_width-width.ensures in
-    rw w (omega (arith, c.requires.n_in_bounds.0, width_fits c.args.edition c.loop-i.i c.args.n c.loop-i-test.true))
+    rw w (omega (arith, c.requires.room.0, width_fits c.args.edition c.loop-i.i c.args.n c.loop-i-test.true))
 
 pub overflow_add-at : goal.overflow_add-at
 overflow_add-at c =
     let w = c.note_width-width.ensures in
-    rw w (omega (arith, c.requires.n_in_bounds.0, width_fits c.args.edition c.loop-i.i c.args.n c.loop-i-test.true))
+    rw w (omega (arith, c.requires.room.0, width_fits c.args.edition c.loop-i.i c.args.n c.loop-i-test.true))
 
 pub note_at-requires : goal.note_at-requires
 note_at-requires c =
     let w = c.note_width-width.ensures in
     let i = c.loop-i.i in
     rw w
-    (record { edition_in_bounds = omega (arith, c.requires.n_in_bounds.0, width_fits c.args.edition i c.args.n c.loop-i-test.true); at_value = all_to_at (λ i. note_within c.args.edition true (note_at c.args.edition true c.args.bytes.now (c.args.at + note_width c.args.edition * i))) c.args.n c.requires.n_value i c.loop-i-test.true })
+    (record { room = omega (arith, c.requires.room.0, width_fits c.args.edition i c.args.n c.loop-i-test.true); within = all_to_at (λ i. note_within c.args.edition true (note_at c.args.edition true c.args.bytes.now (c.args.at + note_width c.args.edition * i))) c.args.n c.requires.n_value i c.loop-i-test.true })
 
 pub loop-i-preserved : goal.loop-i-preserved
 loop-i-preserved c =

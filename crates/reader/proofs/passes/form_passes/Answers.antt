@@ -22,7 +22,7 @@ pub returns : goal.returns
 unfolding form_in
 returns c =
     let b = c.args.bytes.now in
-    let p = c.requires.at_value in
+    let p = c.requires.places in
     tests_are b (c.byte_in-phrases.ensures ∙ ap (λ (a : ℕ). byte_at b (a + 2)) p.0)
     (c.bars-before.ensures ∙ ap end_bars_of (c.end_coded-intro.ensures ∙ both_are end_coded (c.byte_in-intro_code.ensures ∙ ap (byte_at b) p.0) (c.byte_in-intro_bars.ensures ∙ ap (λ (a : ℕ). byte_at b (a + 1)) p.0)))
     (c.bars-after.ensures ∙ ap outro_length_of (c.outro_coded-outro.ensures ∙ both_are outro_coded (c.byte_in-outro_code.ensures ∙ ap (λ (a : ℕ). byte_at b (a + 3)) p.0) (c.byte_in-outro_bars.ensures ∙ ap (λ (a : ℕ). byte_at b (a + 4)) p.0)))

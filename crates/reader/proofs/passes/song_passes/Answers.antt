@@ -14,10 +14,10 @@ unfolding within
 tests_are b p1 p2 p3 = rw (p1, p2, p3)
 
 pub scale_at-pcs-requires : goal.scale_at-pcs-requires
-scale_at-pcs-requires c = record { n_in_bounds = omega (arith, body_in_lem c.args.bytes.now c.requires.l_value 3 (omega arith), size_in c.args.bytes.now c.requires.l_value 3 (omega arith), c.requires.roomy.scale); n_bound = omega (arith, size_in c.args.bytes.now c.requires.l_value 3 (omega arith), c.requires.roomy.scale_few) }
+scale_at-pcs-requires c = record { room = omega (arith, body_in_lem c.args.bytes.now c.requires.l_value 3 (omega arith), size_in c.args.bytes.now c.requires.l_value 3 (omega arith), c.requires.roomy.scale); n_bound = omega (arith, size_in c.args.bytes.now c.requires.l_value 3 (omega arith), c.requires.roomy.scale_few) }
 
 pub form_passes-form-requires : goal.form_passes-form-requires
-form_passes-form-requires c = record { at_in_bounds = omega (arith, body_in_lem c.args.bytes.now c.requires.l_value 8 (omega arith), c.requires.roomy.ends); at_value = (body_in_lem c.args.bytes.now c.requires.l_value 8 (omega arith), size_in c.args.bytes.now c.requires.l_value 9 (omega arith)) }
+form_passes-form-requires c = record { room = omega (arith, body_in_lem c.args.bytes.now c.requires.l_value 8 (omega arith), c.requires.roomy.ends); places = (body_in_lem c.args.bytes.now c.requires.l_value 8 (omega arith), size_in c.args.bytes.now c.requires.l_value 9 (omega arith)) }
 
 pub returns : goal.returns
 unfolding song_in

@@ -12,7 +12,7 @@ song_in-song-requires c =
     let b = c.args.bytes.now in
     let done : (read_of b).outcome ≡ Outcome.Done = sym c.outcome_of-outcome.ensures ∙ c.in-Done.is in
     let p = passes b done in
-    record { l_value = c.layout_of-l.ensures; roomy = formed_roomy b p.formed; bytes_value = p.within }
+    record { l_value = c.layout_of-l.ensures; roomy = formed_roomy b p.formed; within = p.within }
 
 pub returns-in-Refused : goal.returns-in-Refused
 returns-in-Refused c =

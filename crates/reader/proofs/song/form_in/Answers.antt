@@ -38,7 +38,7 @@ pub byte_in-dip-requires : goal.byte_in-dip-requires
 byte_in-dip-requires c = omega (arith, body_in_lem c.args.bytes.now c.requires.l_value 8 (omega arith), c.requires.roomy.ends)
 
 pub plays_from-plays-requires : goal.plays_from-plays-requires
-plays_from-plays-requires c = record { n_in_bounds = omega (arith, body_in_lem c.args.bytes.now c.requires.l_value 9 (omega arith), size_in c.args.bytes.now c.requires.l_value 9 (omega arith), c.requires.roomy.plays); n_bound = omega (arith, size_in c.args.bytes.now c.requires.l_value 9 (omega arith), c.requires.roomy.plays_few) }
+plays_from-plays-requires c = record { room = omega (arith, body_in_lem c.args.bytes.now c.requires.l_value 9 (omega arith), size_in c.args.bytes.now c.requires.l_value 9 (omega arith), c.requires.roomy.plays); n_bound = omega (arith, size_in c.args.bytes.now c.requires.l_value 9 (omega arith), c.requires.roomy.plays_few) }
 
 pub overflow_cast-result : goal.overflow_cast-result
 overflow_cast-result c = omega (arith, size_in c.args.bytes.now c.requires.l_value 9 (omega arith), c.requires.roomy.plays_few)

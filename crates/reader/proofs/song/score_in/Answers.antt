@@ -48,7 +48,7 @@ pub f32_at-bpm-requires : goal.f32_at-bpm-requires
 unfolding score_in
 f32_at-bpm-requires c =
     let b = c.args.bytes.now in
-    record { at_in_bounds = omega (arith, body_in_lem c.args.bytes.now c.requires.l_value 1 (omega arith), c.requires.roomy.tempo); t = subst T (sym (ap (λ (a : ℕ). finite (f32_at b a)) (body_in_lem c.args.bytes.now c.requires.l_value 1 (omega arith)) ∙ (score_told (edition_in c.args.bytes.now) (score_in c.args.bytes.now) c.requires.bytes_value).bpm)) tt }
+    record { room = omega (arith, body_in_lem c.args.bytes.now c.requires.l_value 1 (omega arith), c.requires.roomy.tempo); finite = subst T (sym (ap (λ (a : ℕ). finite (f32_at b a)) (body_in_lem c.args.bytes.now c.requires.l_value 1 (omega arith)) ∙ (score_told (edition_in c.args.bytes.now) (score_in c.args.bytes.now) c.requires.within).bpm)) tt }
 
 pub chords_from-chords-requires : goal.chords_from-chords-requires
 chords_from-chords-requires c = omega (arith, body_in_lem c.args.bytes.now c.requires.l_value 2 (omega arith), c.requires.roomy.chords)
@@ -71,7 +71,7 @@ lead_at-lead-requires c =
     let b = c.args.bytes.now in
     let wide = c.note_width-width.ensures ∙ ap note_width (edition_in_lem c.args.bytes.now c.requires.l_value) in
     rw (body_in_lem c.args.bytes.now c.requires.l_value 4 (omega arith), size_in c.args.bytes.now c.requires.l_value 4 (omega arith), wide, edition_in_lem c.args.bytes.now c.requires.l_value)
-    (record { n_in_bounds = (c.requires.roomy.lead, c.requires.roomy.lead_few); n_value = notes_within_lem (edition_in b) true b (body_at b 4) 56 (note_count_in b 4) c.requires.roomy.lead_few ∙ (score_told (edition_in c.args.bytes.now) (score_in c.args.bytes.now) c.requires.bytes_value).lead })
+    (record { room = (c.requires.roomy.lead, c.requires.roomy.lead_few); n_value = notes_within_lem (edition_in b) true b (body_at b 4) 56 (note_count_in b 4) c.requires.roomy.lead_few ∙ (score_told (edition_in c.args.bytes.now) (score_in c.args.bytes.now) c.requires.within).lead })
 
 pub keys_at-keys-requires : goal.keys_at-keys-requires
 unfolding score_in
@@ -79,13 +79,13 @@ keys_at-keys-requires c =
     let b = c.args.bytes.now in
     let wide = c.note_width-width.ensures ∙ ap note_width (edition_in_lem c.args.bytes.now c.requires.l_value) in
     rw (body_in_lem c.args.bytes.now c.requires.l_value 5 (omega arith), size_in c.args.bytes.now c.requires.l_value 5 (omega arith), wide, edition_in_lem c.args.bytes.now c.requires.l_value)
-    (record { n_in_bounds = (c.requires.roomy.keys, c.requires.roomy.keys_few); n_value = notes_within_lem (edition_in b) false b (body_at b 5) 128 (note_count_in b 5) c.requires.roomy.keys_few ∙ (score_told (edition_in c.args.bytes.now) (score_in c.args.bytes.now) c.requires.bytes_value).keys })
+    (record { room = (c.requires.roomy.keys, c.requires.roomy.keys_few); n_value = notes_within_lem (edition_in b) false b (body_at b 5) 128 (note_count_in b 5) c.requires.roomy.keys_few ∙ (score_told (edition_in c.args.bytes.now) (score_in c.args.bytes.now) c.requires.within).keys })
 
 pub hits_at-hits-requires : goal.hits_at-hits-requires
 unfolding score_in
 hits_at-hits-requires c =
     let b = c.args.bytes.now in
-    record { n_in_bounds = (omega (arith, body_in_lem c.args.bytes.now c.requires.l_value 6 (omega arith), size_in c.args.bytes.now c.requires.l_value 6 (omega arith), c.requires.roomy.hits), omega (arith, size_in c.args.bytes.now c.requires.l_value 6 (omega arith), c.requires.roomy.hits_few)); n_value = both_are (λ a n. hits_pass b a (n / 10)) (body_in_lem c.args.bytes.now c.requires.l_value 6 (omega arith)) (size_in c.args.bytes.now c.requires.l_value 6 (omega arith)) ∙ hits_within_lem b (body_at b 6) 98 (size_at b 6 / 10) c.requires.roomy.hits_few ∙ (score_told (edition_in c.args.bytes.now) (score_in c.args.bytes.now) c.requires.bytes_value).hits }
+    record { room = (omega (arith, body_in_lem c.args.bytes.now c.requires.l_value 6 (omega arith), size_in c.args.bytes.now c.requires.l_value 6 (omega arith), c.requires.roomy.hits), omega (arith, size_in c.args.bytes.now c.requires.l_value 6 (omega arith), c.requires.roomy.hits_few)); n_value = both_are (λ a n. hits_pass b a (n / 10)) (body_in_lem c.args.bytes.now c.requires.l_value 6 (omega arith)) (size_in c.args.bytes.now c.requires.l_value 6 (omega arith)) ∙ hits_within_lem b (body_at b 6) 98 (size_at b 6 / 10) c.requires.roomy.hits_few ∙ (score_told (edition_in c.args.bytes.now) (score_in c.args.bytes.now) c.requires.within).hits }
 
 pub bass_at-bass-requires : goal.bass_at-bass-requires
 unfolding score_in
@@ -93,7 +93,7 @@ bass_at-bass-requires c =
     let b = c.args.bytes.now in
     let wide = c.note_width-width.ensures ∙ ap note_width (edition_in_lem c.args.bytes.now c.requires.l_value) in
     rw (body_in_lem c.args.bytes.now c.requires.l_value 7 (omega arith), size_in c.args.bytes.now c.requires.l_value 7 (omega arith), wide, edition_in_lem c.args.bytes.now c.requires.l_value)
-    (record { n_in_bounds = (c.requires.roomy.bass, c.requires.roomy.bass_few); n_value = notes_within_lem (edition_in b) false b (body_at b 7) 104 (note_count_in b 7) c.requires.roomy.bass_few ∙ (score_told (edition_in c.args.bytes.now) (score_in c.args.bytes.now) c.requires.bytes_value).bass })
+    (record { room = (c.requires.roomy.bass, c.requires.roomy.bass_few); n_value = notes_within_lem (edition_in b) false b (body_at b 7) 104 (note_count_in b 7) c.requires.roomy.bass_few ∙ (score_told (edition_in c.args.bytes.now) (score_in c.args.bytes.now) c.requires.within).bass })
 
 pub returns : goal.returns
 unfolding score_in

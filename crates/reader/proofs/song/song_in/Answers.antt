@@ -13,10 +13,10 @@ u64_at-seed-requires c = omega (arith, body_in_lem c.args.bytes.now c.requires.l
 
 pub score_in-score-requires : goal.score_in-score-requires
 unfolding song_in
-score_in-score-requires c = record { l_value = c.requires.l_value; roomy = c.requires.roomy; bytes_value = (within_told (song_in c.args.bytes.now) c.requires.bytes_value).0 }
+score_in-score-requires c = record { l_value = c.requires.l_value; roomy = c.requires.roomy; within = (within_told (song_in c.args.bytes.now) c.requires.within).0 }
 
 pub scale_at-scale-requires : goal.scale_at-scale-requires
-scale_at-scale-requires c = record { n_in_bounds = omega (arith, body_in_lem c.args.bytes.now c.requires.l_value 3 (omega arith), size_in c.args.bytes.now c.requires.l_value 3 (omega arith), c.requires.roomy.scale); n_bound = omega (arith, size_in c.args.bytes.now c.requires.l_value 3 (omega arith), c.requires.roomy.scale_few) }
+scale_at-scale-requires c = record { room = omega (arith, body_in_lem c.args.bytes.now c.requires.l_value 3 (omega arith), size_in c.args.bytes.now c.requires.l_value 3 (omega arith), c.requires.roomy.scale); n_bound = omega (arith, size_in c.args.bytes.now c.requires.l_value 3 (omega arith), c.requires.roomy.scale_few) }
 
 pub returns : goal.returns
 unfolding song_in

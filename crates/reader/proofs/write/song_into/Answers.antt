@@ -13,5 +13,5 @@ sheet_into-requires c =
     record {
       writable = told_writable v.edition v.score w.0 t.lead.size t.keys.size t.hits.size t.bass.size;
       chorded = t.chords.each;
-      n_bound = ((scale_told v.scale w.1).1, (song_bars v.form f.0 f.1 f.2).most);
+      capacities = ((scale_told v.scale w.1).1, (song_bars v.form f.0 f.1 f.2).most);
     }
