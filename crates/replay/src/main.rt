@@ -1,9 +1,15 @@
 // Runs recorded answers and published vectors: each file of data/ is a list of lines, and a line says
 // what is asked and what the answer must be. The lines of data/wrong have wrong answers, so that a
 // program that agrees to anything is noticed.
-use libc::STDOUT_FILENO;
+#![tactic(auto)]
+
+use input::read_full;
+use std::io::Read;
+use std::rt::Files;
+use std::{fs, io};
 
 mod asked;
+mod input;
 mod line;
 
 // What became of a line.
@@ -14,20 +20,20 @@ enum Outcome {
     Differs,
 }
 
-// Reads a line and asks it. A line that is cut off differs.
-fn ask_next(fd: i32) -> Outcome {
+// Reads a line and asks it. A line that is cut off differs. A read that fails counts as the end of the file.
+fn ask_next<R: Read>(rt: &impl Print, file: &mut R) -> io::Result<Outcome> {
     let mut text = [0u8; 53];
-    let n = io::read_full(fd, &mut text);
+    let (n, _) = read_full(file, &mut text);
     if n == 0 {
-        return Outcome::End;
+        return Ok(Outcome::End);
     }
     let l = line::parsed(&text[..n]);
     let answer = asked::answer(l.what, l.a, l.b);
     if n == 53 && answer == l.answer {
-        return Outcome::Agrees;
+        return Ok(Outcome::Agrees);
     }
-    io::write_all(STDOUT_FILENO, &text[..n]);
-    Outcome::Differs
+    rt.write_all(&text[..n])?;
+    Ok(Outcome::Differs)
 }
 
 #[derive(Clone, Copy)]
@@ -38,11 +44,11 @@ struct Count {
 
 // All lines of a file. A proved loop has to end, and nothing says that a file does, so the turns are
 // counted up to a number that no file here reaches.
-fn counted(fd: i32) -> Count {
+fn counted<R: Read>(rt: &impl Print, file: &mut R) -> io::Result<Count> {
     let mut lines: u64 = 0;
     let mut agree: u64 = 0;
     while lines < 1000000 {
-        let t = ask_next(fd);
+        let t = ask_next(rt, file)?;
         match t {
             Outcome::End => {
                 break;
@@ -54,37 +60,30 @@ fn counted(fd: i32) -> Count {
         }
         lines += 1;
     }
-    Count {
+    Ok(Count {
         lines: lines,
         agree: agree,
-    }
+    })
 }
 
-fn replay(name: &[u8]) {
-    let fd = os::open_read(name);
-    if fd < 0 {
-        os::fail(name);
-        return;
-    }
-    let c = counted(fd);
-    libc::close(fd);
-    io::write_all(STDOUT_FILENO, name);
-    io::write_all(STDOUT_FILENO, b": ");
-    io::print_decimal(STDOUT_FILENO, c.agree);
-    io::write_all(STDOUT_FILENO, b" of ");
-    io::print_decimal(STDOUT_FILENO, c.lines);
-    io::write_all(STDOUT_FILENO, b" lines agree\n");
+fn replay<R: Files + Print + Eprint>(rt: &R, name: &str) -> io::Result<()> {
+    let mut file = match fs::open(rt, name) {
+        Ok(file) => file,
+        Err(e) => return rt.eprintln(format_args!("{name}: {e}")),
+    };
+    let c = counted(rt, &mut file)?;
+    println!(rt; "{name}: {} of {} lines agree", c.agree, c.lines)
 }
 
-fn main() {
-    replay(b"published");
-    replay(b"draws");
-    replay(b"forms");
-    replay(b"songs");
-    replay(b"pages");
-    replay(b"halls");
-    replay(b"sheets");
-    replay(b"editions");
-    replay(b"lessons");
-    replay(b"wrong");
+fn main(rt: HostRuntime) -> io::Result<()> {
+    replay(&rt, "published")?;
+    replay(&rt, "draws")?;
+    replay(&rt, "forms")?;
+    replay(&rt, "songs")?;
+    replay(&rt, "pages")?;
+    replay(&rt, "halls")?;
+    replay(&rt, "sheets")?;
+    replay(&rt, "editions")?;
+    replay(&rt, "lessons")?;
+    replay(&rt, "wrong")
 }

@@ -9,7 +9,7 @@ use lib.ListN.{length}
 use Rattle.composer.specs.declared.refusal.Refusal.{Refusal}
 use Rattle.pages.specs.Answer.{Declines}
 use Rattle.pages.specs.Sheet.{sheet_asked}
-use Rattle.pages.proofs.ReplyLaws.{replied_none, replied_whole, replied_after}
+use Rattle.pages.proofs.ReplyLaws.{replied_whole, replied_after}
 use Rattle.pages.specs.Edition.{sheet_most}
 use Rattle.pages.specs.declared.edition.Edition.{Edition}
 use Rattle.pages.proofs.SheetLaws.{sheet_most_lem}
@@ -25,16 +25,11 @@ seed_stands n e = go (eqb n 8) (eqb n 9) refl refl e
     go false true p q e = omega (arith, eqb-true n 9 q)
     go false false p q e = absurd (true≢false (sym e))
 
-pub returns-then-out-lt-SHEET_MOST : goal.returns-then-out-lt-SHEET_MOST
-returns-then-out-lt-SHEET_MOST c =
-    let both = replied_none (sheet_most Edition.Two) (paper_asked c.args.input.now) c.args.out.now c.if-out-lt-SHEET_MOST.true in
-    record { value = both.0; out_after = both.1 }
-
 pub returns-then-not-is_record : goal.returns-then-not-is_record
 unfolding paper_asked
 returns-then-not-is_record c =
     let other = sym c.is_record.ensures ∙ c.if-not-is_record.true in
-    let both = replied_whole (sheet_most Edition.Two) (Declines Refusal.WrongLength) c.args.out.now c.if-out-lt-SHEET_MOST.false c.put_refusal.ensures.value c.put_refusal.ensures.out_after in
+    let both = replied_whole (sheet_most Edition.Two) (Declines Refusal.WrongLength) c.args.out.now (omega arith) c.put_refusal.ensures.value c.put_refusal.ensures.out_after in
     record { value = rw other both.0; out_after = rw other both.1 }
 
 pub u64_at-seed-requires : goal.u64_at-seed-requires
@@ -45,7 +40,7 @@ pub returns : goal.returns
 unfolding paper_asked
 returns c =
     let same = sym c.is_record.ensures ∙ c.if-not-is_record.false in
-    let both = replied_after (sheet_most Edition.Two) (sheet_asked c.style_in-style.result c.u64_at-seed.result) c.args.out.now c.if-out-lt-SHEET_MOST.false (sheet_most_lem _ _) c.sheet-w.ensures.value c.sheet-w.ensures.buf_after c.reply.ensures.value c.reply.ensures.out_after in
+    let both = replied_after (sheet_most Edition.Two) (sheet_asked c.style_in-style.result c.u64_at-seed.result) c.args.out.now (omega arith) (sheet_most_lem _ _) c.sheet-w.ensures.value c.sheet-w.ensures.buf_after c.reply.ensures.value c.reply.ensures.out_after in
     record {
       value = rw (same, ← c.u64_at-seed.ensures, ← c.style_in-style.ensures) both.0;
       out_after = rw (same, ← c.u64_at-seed.ensures, ← c.style_in-style.ensures) both.1;
