@@ -12,7 +12,6 @@ use record::respond;
 use std::io;
 use std::io::{Read, Write};
 
-mod input;
 mod record;
 
 // Writes what the input asks for. The error of a read that fails is answered once that is written.

@@ -9,7 +9,6 @@ use std::rt::Files;
 use std::{fs, io};
 
 mod asked;
-mod input;
 mod line;
 
 // What became of a line.
