@@ -1,5 +1,5 @@
-// The functions of crate `probe` for C, under their own names: no crate is a library and a static library. What each of
-// them does is said where `probe` has it, and its clauses stand here word for word.
+// The functions of crate `probe` for C, under their own names and with the same clauses: no crate is a library and a
+// static library.
 #![tactic(auto)]
 
 pub mod counters;
