@@ -14,20 +14,21 @@ use std::io::{Read, Write};
 
 mod record;
 
-// Writes what the input asks for. The error of a read that fails is answered once that is written.
-pub fn answer<R: Read, W: Write>(input: &mut R, output: &mut W) -> io::Result<()>
-    ensures { OnOk result (IfSome (R.remaining input.old) (λ xs.
-        Appends (W.contents output.old) (W.contents output.new) (reply_bytes (hall_asked xs)))) }
+// Writes what the input asks for. Answers how the reading went, and how the writing.
+pub fn answer<R: Read, W: Write>(input: &mut R, output: &mut W) -> (io::Result<()>, io::Result<()>)
+    ensures { OnOk result.0 (IfSome (R.remaining input.old) (λ xs.
+        OnOk result.1 (Appends (W.contents output.old) (W.contents output.new) (reply_bytes (hall_asked xs))))) }
 {
     // a byte more than a record has, so that a longer input shows
     let mut bytes = [0u8; 11];
     let (n, read) = read_full(input, &mut bytes);
     let mut out = [0u8; 32768];
     let m = respond(&bytes[..n], &mut out);
-    output.write_all(&out[..m])?;
-    read
+    let written = output.write_all(&out[..m]);
+    (read, written)
 }
 
 fn main(rt: HostRuntime) -> io::Result<()> {
-    answer(&mut rt.stdin(), &mut rt.stdout())
+    let (_, written) = answer(&mut rt.stdin(), &mut rt.stdout());
+    written
 }

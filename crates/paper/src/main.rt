@@ -16,10 +16,10 @@ use std::io::{Read, Write};
 
 mod record;
 
-// Writes what the input asks for. The error of a read that fails is answered once that is written.
-pub fn answer<R: Read, W: Write>(input: &mut R, output: &mut W) -> io::Result<()>
-    ensures replied { OnOk result (IfSome (R.remaining input.old) (λ xs.
-        Appends (W.contents output.old) (W.contents output.new) (reply_bytes (paper_asked xs)))) }
+// Writes what the input asks for. Answers how the reading went, and how the writing.
+pub fn answer<R: Read, W: Write>(input: &mut R, output: &mut W) -> (io::Result<()>, io::Result<()>)
+    ensures replied { OnOk result.0 (IfSome (R.remaining input.old) (λ xs.
+        OnOk result.1 (Appends (W.contents output.old) (W.contents output.new) (reply_bytes (paper_asked xs))))) }
     ensures promise { IfSome (R.remaining input.old) PaperPromise }
 {
     // a byte more than a record has, so that a longer input shows
@@ -27,10 +27,11 @@ pub fn answer<R: Read, W: Write>(input: &mut R, output: &mut W) -> io::Result<()
     let (n, read) = read_full(input, &mut bytes);
     let mut out = [0u8; SHEET_MOST];
     let m = respond(&bytes[..n], &mut out);
-    output.write_all(&out[..m])?;
-    read
+    let written = output.write_all(&out[..m]);
+    (read, written)
 }
 
 fn main(rt: HostRuntime) -> io::Result<()> {
-    answer(&mut rt.stdin(), &mut rt.stdout())
+    let (_, written) = answer(&mut rt.stdin(), &mut rt.stdout());
+    written
 }

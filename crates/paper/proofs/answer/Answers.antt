@@ -1,5 +1,5 @@
 -- What was read tells the reply, and the reply is what is written.
-use Rattle.std.proofs.Common.{◌≡◌, length, take, replicate, sym, ap, ◌∙◌, subst, arith, le_refl, length-take-le}
+use Rattle.std.proofs.Common.{◌≡◌, ℕ, List, OnOk, length, take, replicate, sym, ap, ◌∙◌, subst, arith, le_refl, length-take-le}
 use Rattle.std.specs.Io.KnownBytes.{Appends}
 use Rattle.pages.specs.Edition.{sheet_most}
 use Rattle.pages.specs.Reply.{reply_bytes}
@@ -17,10 +17,8 @@ returns-clause-replied g c =
     let long : length front ≡ f.result.0 = length-take-le _ f.new.buf f.ensures.within in
     let replied : take c.respond-m.result c.respond-m.new.out ≡ reply_bytes (paper_asked front) =
     rw (c.respond-m.ensures.value, c.respond-m.ensures.out_after) (replied_front (sheet_most Edition.Two) (paper_asked front) (replicate 5456 0) (le_refl 5456)) in
-    read_whole _ _ _ front (λ xs. Appends _ _ (reply_bytes (paper_asked xs))) f.ensures.bytes f.ensures.end (λ rest h. subst (Appends _ _) (sym (ap reply_bytes (asked_whole front rest (λ l. h (omega arith))) ∙ sym replied)) c.in_ok-write_all.ensures.bytes)
+    let writes = λ (ys : List ℕ). OnOk c.write_all-written.result (Appends (g.W.Write.contents c.args.output.now) (g.W.Write.contents c.write_all-written.new.self) ys) in
+    read_whole _ _ _ front (λ xs. writes (reply_bytes (paper_asked xs))) f.ensures.bytes f.ensures.end (λ rest h. subst writes (sym (ap reply_bytes (asked_whole front rest (λ l. h (omega arith))) ∙ sym replied)) c.write_all-written.ensures.bytes)
 
 pub returns-clause-promise : goal.returns-clause-promise
 returns-clause-promise g c = promised _
-
-pub returns-in_err-write_all-clause-promise : goal.returns-in_err-write_all-clause-promise
-returns-in_err-write_all-clause-promise g c = promised _
