@@ -5,7 +5,8 @@ use mathlib.Core.List.{List, ◌++◌}
 use Prim.Native.Nat.{ℕ, ◌≤◌, ◌<◌}
 use native.Mathlib.Omega.{arith}
 use borrow.Author.Tests.{lt-ltb, le-ltb}
-use lib.ListN.{length, drop}
+use lib.ListN.{length, take, drop}
+use Rattle.std.proofs.lemmas.List.{take_at}
 use Rattle.composer.specs.declared.refusal.Refusal.{Refusal}
 use Rattle.pages.specs.Answer.{Asked, Writes, Declines, bytes_of, written_of, buffer_of}
 use Rattle.pages.specs.Bytes.{field}
@@ -43,3 +44,7 @@ module _ (most : ℕ) (a : Asked) (b : List ℕ) where
   replied_after h k p q e f =
       let g = reply_after a b (omega arith) in
       replied_whole h (e ∙ rw p g.0) (f ∙ rw (p, q) g.1)
+
+-- the reply is the front of the buffer
+pub replied_front : (most : ℕ) (a : Asked) (b : List ℕ) → most ≤ length b → take (replied_length most (length b) a) (replied_buffer most b a) ≡ reply_bytes a
+replied_front most a b h = rw (le-ltb (length b) most h) (take_at (reply_bytes a) (drop (length (reply_bytes a)) b) _ refl)

@@ -7,7 +7,6 @@ use native.Mathlib.Omega.{arith}
 use borrow.Author.Tests.{ne_eqb}
 use lib.ListN.{length, length-append, get_or-append, get_or-eq_default}
 use lib.Seq.{get_or-append-add}
-use Rattle.std.specs.Prelude.{Option, None, Some, IfSome}
 use Rattle.laws.proofs.Lists.{get_d_any}
 use Rattle.composer.specs.declared.refusal.Refusal.{Refusal}
 use Rattle.composer.specs.declared.style.Style.{Style}
@@ -53,7 +52,3 @@ paper_promise input = record {
   served = λ e. eight_asked input e ∙ rw (seed_sheet Edition.Two Style.Hiphop (be64_at input 0));
   other = other_asked input;
 }
-
-pub promised : (known : Option (List ℕ)) → IfSome known PaperPromise
-promised None = tt
-promised (Some input) = paper_promise input

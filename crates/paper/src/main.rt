@@ -5,7 +5,6 @@
 ghost use Rattle.std.specs.Prelude.{IfSome, OnOk};
 ghost use Rattle.std.specs.Io.KnownBytes.{Appends};
 ghost use Rattle.pages.specs.Reply.{reply_bytes};
-ghost use Rattle.paper.specs.Promise.{PaperPromise};
 ghost use Rattle.paper.specs.Record.{paper_asked};
 
 use input::read_full;
@@ -18,9 +17,8 @@ mod record;
 
 // Writes what the input asks for. Answers how the reading went, and how the writing.
 pub fn answer<R: Read, W: Write>(input: &mut R, output: &mut W) -> (io::Result<()>, io::Result<()>)
-    ensures replied { OnOk result.0 (IfSome (R.remaining input.old) (λ xs.
+    ensures { OnOk result.0 (IfSome (R.remaining input.old) (λ xs.
         OnOk result.1 (Appends (W.contents output.old) (W.contents output.new) (reply_bytes (paper_asked xs))))) }
-    ensures promise { IfSome (R.remaining input.old) PaperPromise }
 {
     // a byte more than a record has, so that a longer input shows
     let mut bytes = [0u8; 10];

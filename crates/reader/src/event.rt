@@ -138,7 +138,7 @@ pub(crate) fn hits_pass(bytes: &[u8], at: usize, n: usize) -> bool
 // The lanes: the first n entries, and zeros behind them.
 pub(crate) fn lead_at(bytes: &[u8], at: usize, n: usize, edition: Edition) -> [Note; 56]
     requires room { (at + note_width edition * n ≤ length bytes.now) × (n ≤ 56) }
-    requires n_value { notes_pass edition true bytes.now at n ≡ true }
+    requires pass { notes_pass edition true bytes.now at n ≡ true }
     ensures { result ≡ pad no_note 56 (notes_at edition true bytes.now at n) }
 {
     let width = edition.note_width();
@@ -153,7 +153,7 @@ pub(crate) fn lead_at(bytes: &[u8], at: usize, n: usize, edition: Edition) -> [N
 
 pub(crate) fn keys_at(bytes: &[u8], at: usize, n: usize, edition: Edition) -> [Note; 128]
     requires room { (at + note_width edition * n ≤ length bytes.now) × (n ≤ 128) }
-    requires n_value { notes_pass edition false bytes.now at n ≡ true }
+    requires pass { notes_pass edition false bytes.now at n ≡ true }
     ensures { result ≡ pad no_note 128 (notes_at edition false bytes.now at n) }
 {
     let width = edition.note_width();
@@ -168,7 +168,7 @@ pub(crate) fn keys_at(bytes: &[u8], at: usize, n: usize, edition: Edition) -> [N
 
 pub(crate) fn hits_at(bytes: &[u8], at: usize, n: usize) -> [Hit; 98]
     requires room { (at + 10 * n ≤ length bytes.now) × (n ≤ 98) }
-    requires n_value { hits_pass bytes.now at n ≡ true }
+    requires pass { hits_pass bytes.now at n ≡ true }
     ensures { result ≡ pad no_hit 98 (hits_at bytes.now at n) }
 {
     let mut out = [NO_HIT; 98];
@@ -182,7 +182,7 @@ pub(crate) fn hits_at(bytes: &[u8], at: usize, n: usize) -> [Hit; 98]
 
 pub(crate) fn bass_at(bytes: &[u8], at: usize, n: usize, edition: Edition) -> [Note; 104]
     requires room { (at + note_width edition * n ≤ length bytes.now) × (n ≤ 104) }
-    requires n_value { notes_pass edition false bytes.now at n ≡ true }
+    requires pass { notes_pass edition false bytes.now at n ≡ true }
     ensures { result ≡ pad no_note 104 (notes_at edition false bytes.now at n) }
 {
     let width = edition.note_width();

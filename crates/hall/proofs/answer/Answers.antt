@@ -3,7 +3,8 @@ use Rattle.std.proofs.Common.{◌≡◌, ℕ, List, OnOk, length, take, replicat
 use Rattle.std.specs.Io.KnownBytes.{Appends}
 use Rattle.pages.specs.Reply.{reply_bytes}
 use Rattle.hall.specs.Record.{hall_asked}
-use Rattle.hall.proofs.AnswerLaws.{read_whole, replied_front}
+use Rattle.input.proofs.ReadLaws.{read_whole}
+use Rattle.pages.proofs.ReplyLaws.{replied_front}
 use Rattle.hall.proofs.RecordLaws.{asked_whole}
 use Rattle.hall.proofs.answer.Goals as goal
 

@@ -5,13 +5,13 @@ use Rattle.pages.specs.Edition.{sheet_most}
 use Rattle.pages.specs.Reply.{reply_bytes}
 use Rattle.pages.specs.declared.edition.Edition.{Edition}
 use Rattle.paper.specs.Record.{paper_asked}
-use Rattle.paper.proofs.AnswerLaws.{read_whole, replied_front}
-use Rattle.paper.proofs.PromiseLaws.{promised}
+use Rattle.input.proofs.ReadLaws.{read_whole}
+use Rattle.pages.proofs.ReplyLaws.{replied_front}
 use Rattle.paper.proofs.RecordLaws.{asked_whole}
 use Rattle.paper.proofs.answer.Goals as goal
 
-pub returns-clause-replied : goal.returns-clause-replied
-returns-clause-replied g c =
+pub returns : goal.returns
+returns g c =
     let f = c.read_full-n in
     let front = take f.result.0 f.new.buf in
     let long : length front ≡ f.result.0 = length-take-le _ f.new.buf f.ensures.within in
@@ -19,6 +19,3 @@ returns-clause-replied g c =
     rw (c.respond-m.ensures.value, c.respond-m.ensures.out_after) (replied_front (sheet_most Edition.Two) (paper_asked front) (replicate 5456 0) (le_refl 5456)) in
     let writes = λ (ys : List ℕ). OnOk c.write_all-written.result (Appends (g.W.Write.contents c.args.output.now) (g.W.Write.contents c.write_all-written.new.self) ys) in
     read_whole _ _ _ front (λ xs. writes (reply_bytes (paper_asked xs))) f.ensures.bytes f.ensures.end (λ rest h. subst writes (sym (ap reply_bytes (asked_whole front rest (λ l. h (omega arith))) ∙ sym replied)) c.write_all-written.ensures.bytes)
-
-pub returns-clause-promise : goal.returns-clause-promise
-returns-clause-promise g c = promised _

@@ -32,7 +32,7 @@ note_at-requires c =
     let w = c.note_width-width.ensures in
     let i = c.loop-i.i in
     rw w
-    (record { room = omega (arith, c.requires.room.0, width_fits c.args.edition i c.args.n c.loop-i-test.true); within = all_to_at (λ i. note_within c.args.edition false (note_at c.args.edition false c.args.bytes.now (c.args.at + note_width c.args.edition * i))) c.args.n c.requires.n_value i c.loop-i-test.true })
+    (record { room = omega (arith, c.requires.room.0, width_fits c.args.edition i c.args.n c.loop-i-test.true); within = all_to_at (λ i. note_within c.args.edition false (note_at c.args.edition false c.args.bytes.now (c.args.at + note_width c.args.edition * i))) c.args.n c.requires.pass i c.loop-i-test.true })
 
 pub loop-i-preserved : goal.loop-i-preserved
 loop-i-preserved c =

@@ -14,7 +14,7 @@ pub loop-i-init : goal.loop-i-init
 loop-i-init c = (omega arith, sym (pad_start (λ k. hit_at c.args.bytes.now (c.args.at + 10 * k)) no_hit 98))
 
 pub hit_at-requires : goal.hit_at-requires
-hit_at-requires c = record { room = omega arith; within = all_to_at (λ i. hit_within (hit_at c.args.bytes.now (c.args.at + 10 * i))) c.args.n c.requires.n_value c.loop-i.i c.loop-i-test.true }
+hit_at-requires c = record { room = omega arith; within = all_to_at (λ i. hit_within (hit_at c.args.bytes.now (c.args.at + 10 * i))) c.args.n c.requires.pass c.loop-i.i c.loop-i-test.true }
 
 pub loop-i-preserved : goal.loop-i-preserved
 loop-i-preserved c = let l = c.loop-i in (omega arith, rw (c.hit_at.ensures, l.invariant.1) (pad_on (λ k. hit_at c.args.bytes.now (c.args.at + 10 * k)) no_hit 98 l.i (omega arith)))

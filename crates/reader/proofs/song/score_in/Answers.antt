@@ -71,7 +71,7 @@ lead_at-lead-requires c =
     let b = c.args.bytes.now in
     let wide = c.note_width-width.ensures ∙ ap note_width (edition_in_lem c.args.bytes.now c.requires.l_value) in
     rw (body_in_lem c.args.bytes.now c.requires.l_value 4 (omega arith), size_in c.args.bytes.now c.requires.l_value 4 (omega arith), wide, edition_in_lem c.args.bytes.now c.requires.l_value)
-    (record { room = (c.requires.roomy.lead, c.requires.roomy.lead_few); n_value = notes_within_lem (edition_in b) true b (body_at b 4) 56 (note_count_in b 4) c.requires.roomy.lead_few ∙ (score_told (edition_in c.args.bytes.now) (score_in c.args.bytes.now) c.requires.within).lead })
+    (record { room = (c.requires.roomy.lead, c.requires.roomy.lead_few); pass = notes_within_lem (edition_in b) true b (body_at b 4) 56 (note_count_in b 4) c.requires.roomy.lead_few ∙ (score_told (edition_in c.args.bytes.now) (score_in c.args.bytes.now) c.requires.within).lead })
 
 pub keys_at-keys-requires : goal.keys_at-keys-requires
 unfolding score_in
@@ -79,13 +79,13 @@ keys_at-keys-requires c =
     let b = c.args.bytes.now in
     let wide = c.note_width-width.ensures ∙ ap note_width (edition_in_lem c.args.bytes.now c.requires.l_value) in
     rw (body_in_lem c.args.bytes.now c.requires.l_value 5 (omega arith), size_in c.args.bytes.now c.requires.l_value 5 (omega arith), wide, edition_in_lem c.args.bytes.now c.requires.l_value)
-    (record { room = (c.requires.roomy.keys, c.requires.roomy.keys_few); n_value = notes_within_lem (edition_in b) false b (body_at b 5) 128 (note_count_in b 5) c.requires.roomy.keys_few ∙ (score_told (edition_in c.args.bytes.now) (score_in c.args.bytes.now) c.requires.within).keys })
+    (record { room = (c.requires.roomy.keys, c.requires.roomy.keys_few); pass = notes_within_lem (edition_in b) false b (body_at b 5) 128 (note_count_in b 5) c.requires.roomy.keys_few ∙ (score_told (edition_in c.args.bytes.now) (score_in c.args.bytes.now) c.requires.within).keys })
 
 pub hits_at-hits-requires : goal.hits_at-hits-requires
 unfolding score_in
 hits_at-hits-requires c =
     let b = c.args.bytes.now in
-    record { room = (omega (arith, body_in_lem c.args.bytes.now c.requires.l_value 6 (omega arith), size_in c.args.bytes.now c.requires.l_value 6 (omega arith), c.requires.roomy.hits), omega (arith, size_in c.args.bytes.now c.requires.l_value 6 (omega arith), c.requires.roomy.hits_few)); n_value = both_are (λ a n. hits_pass b a (n / 10)) (body_in_lem c.args.bytes.now c.requires.l_value 6 (omega arith)) (size_in c.args.bytes.now c.requires.l_value 6 (omega arith)) ∙ hits_within_lem b (body_at b 6) 98 (size_at b 6 / 10) c.requires.roomy.hits_few ∙ (score_told (edition_in c.args.bytes.now) (score_in c.args.bytes.now) c.requires.within).hits }
+    record { room = (omega (arith, body_in_lem c.args.bytes.now c.requires.l_value 6 (omega arith), size_in c.args.bytes.now c.requires.l_value 6 (omega arith), c.requires.roomy.hits), omega (arith, size_in c.args.bytes.now c.requires.l_value 6 (omega arith), c.requires.roomy.hits_few)); pass = both_are (λ a n. hits_pass b a (n / 10)) (body_in_lem c.args.bytes.now c.requires.l_value 6 (omega arith)) (size_in c.args.bytes.now c.requires.l_value 6 (omega arith)) ∙ hits_within_lem b (body_at b 6) 98 (size_at b 6 / 10) c.requires.roomy.hits_few ∙ (score_told (edition_in c.args.bytes.now) (score_in c.args.bytes.now) c.requires.within).hits }
 
 pub bass_at-bass-requires : goal.bass_at-bass-requires
 unfolding score_in
@@ -93,7 +93,7 @@ bass_at-bass-requires c =
     let b = c.args.bytes.now in
     let wide = c.note_width-width.ensures ∙ ap note_width (edition_in_lem c.args.bytes.now c.requires.l_value) in
     rw (body_in_lem c.args.bytes.now c.requires.l_value 7 (omega arith), size_in c.args.bytes.now c.requires.l_value 7 (omega arith), wide, edition_in_lem c.args.bytes.now c.requires.l_value)
-    (record { room = (c.requires.roomy.bass, c.requires.roomy.bass_few); n_value = notes_within_lem (edition_in b) false b (body_at b 7) 104 (note_count_in b 7) c.requires.roomy.bass_few ∙ (score_told (edition_in c.args.bytes.now) (score_in c.args.bytes.now) c.requires.within).bass })
+    (record { room = (c.requires.roomy.bass, c.requires.roomy.bass_few); pass = notes_within_lem (edition_in b) false b (body_at b 7) 104 (note_count_in b 7) c.requires.roomy.bass_few ∙ (score_told (edition_in c.args.bytes.now) (score_in c.args.bytes.now) c.requires.within).bass })
 
 pub returns : goal.returns
 unfolding score_in
