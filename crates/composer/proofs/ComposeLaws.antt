@@ -6,6 +6,7 @@ use Prim.Native.Nat.{ℕ, zero, suc, ◌-◌, ◌≤◌, ◌<◌}
 use native.Mathlib.Omega.{arith}
 use lib.Ieee.{Float}
 use lib.ListN.{length, get_or, replicate}
+use Rattle.std.proofs.Common.{Ok, Err, IfOk}
 use Rattle.laws.specs.Lists.{pad}
 use Rattle.laws.proofs.Lists.{replicate_at, pad_past}
 use Rattle.streams.specs.Stage.{stream_of}
@@ -13,7 +14,7 @@ use Rattle.streams.specs.declared.stage.Stage.{Stage}
 use Rattle.streams.specs.declared.stream.NoiseStream.{NoiseStream}
 use Rattle.composer.specs.Bass.{bass_of}
 use Rattle.composer.specs.Chord.{past_chord}
-use Rattle.composer.specs.Compose.{beat_s_of, song_by, composed_of, refused_of, style_by, compose_of, compose_answered}
+use Rattle.composer.specs.Compose.{beat_s_of, song_by, composed_of, style_by, compose_of}
 use Rattle.composer.specs.Drums.{drums_of}
 use Rattle.composer.specs.Early.{EarlyPromise}
 use Rattle.composer.specs.Harmony.{pentatonic, colour, class_in, classes_of, melody_pcs_of, harmony_of, Tonal}
@@ -22,18 +23,18 @@ use Rattle.composer.specs.Lead.{lead_of}
 use Rattle.composer.specs.Promise.{LanesPromise, BarsPromise, EventsPromise, ScorePromise, DrawsPromise, SongPromise}
 use Rattle.composer.specs.Range.{Within, RangePromise}
 use Rattle.composer.specs.Roles.{RolesPromise, RolesTold}
-use Rattle.composer.specs.Refusal.{Refuses}
-use Rattle.composer.specs.Style.{lead_style_of}
+use Rattle.composer.specs.Refusal.{Refuses, answered}
+use Rattle.composer.specs.Style.{style_number_of, lead_style_of}
 use Rattle.composer.specs.Tempo.{beats_of, tempo_of}
 use Rattle.composer.specs.Voice.{lead_voice_of}
 use Rattle.composer.specs.declared.bass.BassLane.{BassLane}
+use Rattle.composer.specs.declared.compose.Composed.{Composed}
 use Rattle.composer.specs.declared.drums.DrumLane.{DrumLane}
 use Rattle.composer.specs.declared.harmony.Harmony.{Harmony}
 use Rattle.composer.specs.declared.harmony.HarmonyDraw.{HarmonyDraw}
 use Rattle.composer.specs.declared.harmony.Scale.{Scale}
 use Rattle.composer.specs.declared.keys.KeysLane.{KeysLane}
 use Rattle.composer.specs.declared.lead.LeadLane.{LeadLane}
-use Rattle.composer.specs.declared.refusal.Outcome.{Outcome}
 use Rattle.composer.specs.declared.refusal.Refusal.{Refusal}
 use Rattle.composer.specs.declared.score.Score.{Score}
 use Rattle.composer.specs.declared.spread.Drawn.{Drawn}
@@ -56,12 +57,12 @@ use Rattle.composer.proofs.lead.LeadLaws.{lead_laid, lead_few, lead_fits, lead_r
 use Rattle.composer.proofs.lead.RuleLaws.{lead_told}
 use Rattle.composer.proofs.lead.ScaleLaws.{has_occurs}
 
-pub unknown_style : (style seed : ℕ) → 2 ≤ style → compose_of style seed ≡ refused_of Refusal.UnknownStyle
+pub unknown_style : (style seed : ℕ) → 2 ≤ style → compose_of style seed ≡ Err Refusal.UnknownStyle
 unknown_style zero seed h = absurd (omega arith)
 unknown_style (suc zero) seed h = absurd (omega arith)
 unknown_style (suc (suc n)) seed h = refl
 
-pub compose_refused : (style seed : ℕ) → 2 ≤ style → compose_answered (compose_of style seed) ≡ Refuses 1
+pub compose_refused : (style seed : ℕ) → 2 ≤ style → answered (compose_of style seed) ≡ Refuses 1
 compose_refused style seed h = rw (unknown_style style seed h)
 
 -- the song of draws that are each its definition's
@@ -77,10 +78,15 @@ pub composed_by : (style : Style) (seed : ℕ) {hs ts ls ks ds bs vs : NoiseStre
 unfolding composed_of
 composed_by style seed hs h ts t beat ls l ks k ds d bs b vs v = rw (v, vs, b, bs, d, ds, k, ks, l, ls, beat, t, ts, h, hs)
 
-pub known_style : (style seed : ℕ) → style < 2 → compose_of style seed ≡ composed_of (style_by style) seed
+pub known_style : (style seed : ℕ) → style < 2 → compose_of style seed ≡ Ok (composed_of (style_by style) seed)
 known_style zero seed h = refl
 known_style (suc zero) seed h = refl
 known_style (suc (suc n)) seed h = absurd (omega arith)
+
+-- a style's number gives its song
+pub composed_is : (style : Style) (seed : ℕ) → compose_of (style_number_of style) seed ≡ Ok (composed_of style seed)
+composed_is Style.Hiphop seed = refl
+composed_is Style.Sleep seed = refl
 
 -- five classes, or six
 pcs_least : (key : ℕ) (major : Bool) → 5 ≤ (melody_pcs_of key major).n
@@ -219,24 +225,15 @@ module _ (style : Style) (seed : ℕ) where
     voice = voice_counter seed style;
   }
 
-  pub composed_done : (composed_of style seed).outcome ≡ Outcome.Done
-  unfolding composed_of song_by
-  composed_done = refl
-
-  pub song_promise : SongPromise style (composed_of style seed)
-  unfolding composed_of song_by
-  song_promise = record { given = refl; score = score_promise; draws = draws_promise }
-
-abbrev refusals : Outcome → ℕ
-refusals Outcome.Done = 0
-refusals (Outcome.Refused r) = 1
+  pub song_promise : SongPromise style seed (composed_of style seed)
+  song_promise = record { given = rw (composed_is style seed); score = score_promise; draws = draws_promise }
 
 -- whatever is not refused is a song
-pub done_promise : (style seed : ℕ) → (compose_of style seed).outcome ≡ Outcome.Done → ScorePromise (compose_of style seed).score.style (compose_of style seed).score (compose_of style seed).scale
+pub done_promise : (style seed : ℕ) → IfOk (compose_of style seed) (λ (c : Composed). ScorePromise c.score.style c.score c.scale)
 unfolding composed_of song_by
-done_promise zero seed h = (song_promise Style.Hiphop seed).score
-done_promise (suc zero) seed h = (song_promise Style.Sleep seed).score
-done_promise (suc (suc n)) seed h = let e : ◌≡◌ {A = ℕ} 1 0 = ap refusals h in absurd (omega (arith, e))
+done_promise zero seed = (song_promise Style.Hiphop seed).score
+done_promise (suc zero) seed = (song_promise Style.Sleep seed).score
+done_promise (suc (suc n)) seed = tt
 
 pub events_promise : {style : Style} {s : Score} {scale : Scale} → ScorePromise style s scale → EventsPromise s
 events_promise p = record { lanes = p.lanes; plain = p.plain }

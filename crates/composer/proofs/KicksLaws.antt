@@ -14,8 +14,8 @@ use Rattle.laws.specs.Sorts.{count, insert, sort, Sorted}
 use Rattle.laws.proofs.Lists.{pad_push}
 use Rattle.laws.proofs.Sorts.{sort_pad, length_sort, count_sort, floats_sorted}
 use Rattle.composer.specs.Note.{zero32}
-use Rattle.composer.specs.Refusal.{Gives, Refuses}
-use Rattle.composer.specs.Kicks.{is_kick, times_of, kick_times, hear_of, kicks_in, kicks_of, kicks_answered}
+use Rattle.composer.specs.Refusal.{Gives, Refuses, answered}
+use Rattle.composer.specs.Kicks.{is_kick, times_of, kick_times, hear_of, kicks_in, kicks_of}
 use Rattle.composer.specs.declared.note.Hit.{Hit}
 use Rattle.composer.specs.declared.score.Score.{Score}
 use Rattle.composer.specs.declared.kicks.KickTimes.{KickTimes}
@@ -60,10 +60,10 @@ unfolding sort insert of_bits to_bits
 odd_order = refl
 
 -- ---- document 01's answers
-pub kicks_given : (score : Score) → score.hit_count ≤ 98 → kicks_answered (kicks_of score) ≡ Gives (kick_times (kicks_in score))
+pub kicks_given : (score : Score) → score.hit_count ≤ 98 → answered (kicks_of score) ≡ Gives (kick_times (kicks_in score))
 unfolding kicks_of
 kicks_given score h = rw (le-leb score.hit_count 98 h)
 
-pub kicks_refused : (score : Score) → 98 < score.hit_count → kicks_answered (kicks_of score) ≡ Refuses 4
+pub kicks_refused : (score : Score) → 98 < score.hit_count → answered (kicks_of score) ≡ Refuses 4
 unfolding kicks_of
 kicks_refused score h = rw (lt-leb score.hit_count 98 h)

@@ -1,5 +1,5 @@
 -- A song of a style and a seed: each stage draws from its own stream. Definitions only.
-use Rattle.std.specs.Prelude.{cond, ℕ, zero, suc, eqb, replicate, Float}
+use Rattle.std.specs.Prelude.{cond, ℕ, eqb, replicate, Float, Result, Ok, Err}
 use Rattle.std.specs.Float.{binary32}
 use Rattle.std.specs.Float.Ieee.{of_bits, div}
 use Rattle.streams.specs.Stage.{stream_of}
@@ -11,7 +11,7 @@ use Rattle.composer.specs.Harmony.{harmony_of}
 use Rattle.composer.specs.Keys.{keys_of}
 use Rattle.composer.specs.Lead.{lead_of}
 use Rattle.composer.specs.Note.{zero32, no_note, no_hit}
-use Rattle.composer.specs.Refusal.{Answer, answer_by}
+use Rattle.composer.specs.Style.{style_named}
 use Rattle.composer.specs.Tempo.{tempo_of}
 use Rattle.composer.specs.Voice.{lead_voice_of}
 use Rattle.composer.specs.declared.bass.BassLane.{BassLane}
@@ -20,7 +20,6 @@ use Rattle.composer.specs.declared.drums.DrumLane.{DrumLane}
 use Rattle.composer.specs.declared.harmony.HarmonyDraw.{HarmonyDraw}
 use Rattle.composer.specs.declared.keys.KeysLane.{KeysLane}
 use Rattle.composer.specs.declared.lead.LeadLane.{LeadLane}
-use Rattle.composer.specs.declared.refusal.Outcome.{Outcome}
 use Rattle.composer.specs.declared.refusal.Refusal.{Refusal}
 use Rattle.composer.specs.declared.score.Score.{Score}
 use Rattle.composer.specs.declared.spread.Drawn.{Drawn}
@@ -35,7 +34,6 @@ beat_s_of bpm = div binary32 (of_bits binary32 0x4270_0000) bpm
 -- the song of what each stage has drawn
 unfoldable pub song_by : Style → HarmonyDraw → Drawn → LeadLane → KeysLane → DrumLane → BassLane → VoiceDraw → Composed
 song_by style h t l k d b v = record {
-  outcome = Outcome.Done;
   score = record {
     style = style;
     bpm = t.value;
@@ -76,7 +74,7 @@ composed_of style seed =
     let voice = lead_voice_of (stream_of Stage.LeadVoice seed) style in
     song_by style h t lead keys drums bass voice
 
--- ---- what stands beside a refusal: zero throughout
+-- a score with no event
 abbrev pub no_score : Score
 no_score = record {
   style = Style.Hiphop;
@@ -93,24 +91,14 @@ no_score = record {
   lead_voice = LeadVoice.EpVel;
 }
 
-abbrev pub refused_of : Refusal → Composed
-refused_of r = record {
-  outcome = Outcome.Refused r;
-  score = no_score;
-  scale = record { pcs = replicate 6 0; n = 0 };
-  counters = record { harmony = 0; tempo = 0; lead = 0; keys = 0; drums = 0; bass = 0; voice = 0 };
-}
-
 -- of 0 and 1; who asks for another number refuses it
 abbrev pub style_by : ℕ → Style
 style_by n = cond (eqb n 0) Style.Hiphop Style.Sleep
 
--- style 0 is hiphop, 1 sleep; any other is refused
-abbrev pub compose_of : ℕ → ℕ → Composed
-compose_of zero seed = composed_of Style.Hiphop seed
-compose_of (suc zero) seed = composed_of Style.Sleep seed
-compose_of (suc (suc n)) seed = refused_of Refusal.UnknownStyle
+abbrev pub compose_by : Result Style Refusal → ℕ → Result Composed Refusal
+compose_by (Ok style) seed = Ok (composed_of style seed)
+compose_by (Err r) seed = Err r
 
--- the answer as document 01 has it
-abbrev pub compose_answered : Composed → Answer Composed
-compose_answered c = answer_by c.outcome c
+-- style 0 is hiphop, 1 sleep; any other is refused
+abbrev pub compose_of : ℕ → ℕ → Result Composed Refusal
+compose_of n seed = compose_by (style_named n) seed

@@ -1,17 +1,14 @@
 -- The times of a score's kicks in order, and a score with no drums. Definitions only.
-use Rattle.std.specs.Prelude.{Bool, true, false, cond, List, [], ◌∷◌, ◌+◌, leb, length, take, set, replicate, Float}
+use Rattle.std.specs.Prelude.{Bool, true, false, cond, List, [], ◌∷◌, ◌+◌, leb, length, take, set, replicate, Float, Result, Ok, Err}
 use Rattle.laws.specs.Lists.{pad}
 use Rattle.laws.specs.Order.{total_le}
 use Rattle.laws.specs.Sorts.{sort}
 use Rattle.composer.specs.Note.{zero32, no_hit}
-use Rattle.composer.specs.Refusal.{Answer, answer_by}
 use Rattle.composer.specs.declared.refusal.Refusal.{Refusal}
-use Rattle.composer.specs.declared.refusal.Outcome.{Outcome}
 use Rattle.composer.specs.declared.note.Hit.{Hit}
 use Rattle.composer.specs.declared.note.DrumKind.{DrumKind}
 use Rattle.composer.specs.declared.score.Score.{Score}
 use Rattle.composer.specs.declared.kicks.KickTimes.{KickTimes}
-use Rattle.composer.specs.declared.kicks.KicksAnswer.{KicksAnswer}
 
 abbrev pub is_kick : DrumKind → Bool
 is_kick DrumKind.Kick = true
@@ -36,14 +33,8 @@ hear_of t h = cond (is_kick h.kind) (record { at = set t.at t.n h.at; n = t.n + 
 unfoldable pub kicks_in : Score → List Float
 kicks_in score = sort total_le (times_of (take score.hit_count score.hits))
 
-unfoldable pub kicks_of : Score → KicksAnswer
-kicks_of score =
-    cond (leb score.hit_count 98) (record { outcome = Outcome.Done; times = kick_times (kicks_in score) })
-    (record { outcome = Outcome.Refused Refusal.Malformed; times = kick_times [] })
-
--- an answer as document 01 has it
-abbrev pub kicks_answered : KicksAnswer → Answer KickTimes
-kicks_answered a = answer_by a.outcome a.times
+unfoldable pub kicks_of : Score → Result KickTimes Refusal
+kicks_of score = cond (leb score.hit_count 98) (Ok (kick_times (kicks_in score))) (Err Refusal.Malformed)
 
 abbrev pub unbeaten_of : Score → Score
 unbeaten_of score = record {

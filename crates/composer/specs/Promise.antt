@@ -4,14 +4,15 @@ use Rattle.laws.specs.Floats.{f32_of}
 use Rattle.laws.specs.Lanes.{Occurs, EachAtMost, Laid}
 use Rattle.composer.specs.Bass.Promise.{SoundsIn}
 use Rattle.composer.specs.Chord.{past_chord, RootPosition}
-use Rattle.composer.specs.Compose.{compose_answered}
+use Rattle.composer.specs.Compose.{compose_of}
 use Rattle.composer.specs.Drums.{drum_draws_of}
 use Rattle.composer.specs.Early.{EarlyPromise}
 use Rattle.composer.specs.Keys.{key_draws_of}
 use Rattle.composer.specs.Note.{no_note, past_note, note_bar, no_hit, past_hit, hit_bar}
 use Rattle.composer.specs.Plain.{PlainPromise}
 use Rattle.composer.specs.Range.{RangePromise}
-use Rattle.composer.specs.Refusal.{Gives}
+use Rattle.composer.specs.Refusal.{Gives, answered}
+use Rattle.composer.specs.Style.{style_number_of}
 use Rattle.composer.specs.Roles.{RolesPromise}
 use Rattle.composer.specs.Style.{lead_style_of}
 use Rattle.composer.specs.Tempo.{slowest_of, fastest_of}
@@ -86,7 +87,8 @@ pub record DrawsPromise (style : Style) (score : Score) (counters : Counters) : 
   pub drums : counters.drums ≡ drum_draws_of style score.hit_count
   pub voice : counters.voice ≡ 1
 
-pub record SongPromise (style : Style) (c : Composed) : Type 0 where
-  pub given : compose_answered c ≡ Gives c
+-- what `compose` answers for the style and the seed is the song c
+pub record SongPromise (style : Style) (seed : ℕ) (c : Composed) : Type 0 where
+  pub given : answered (compose_of (style_number_of style) seed) ≡ Gives c
   pub score : ScorePromise style c.score c.scale
   pub draws : DrawsPromise style c.score c.counters

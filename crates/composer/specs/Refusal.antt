@@ -1,8 +1,7 @@
 -- The numbers of refusals, by documents 01 and 02, and what an answer then is: a value, or a number alone.
 -- Definitions only.
-use Rattle.std.specs.Prelude.{ℕ}
+use Rattle.std.specs.Prelude.{ℕ, Result, Ok, Err}
 use Rattle.composer.specs.declared.refusal.Refusal.{Refusal}
-use Rattle.composer.specs.declared.refusal.Outcome.{Outcome}
 
 abbrev pub number_of : Refusal → ℕ
 number_of Refusal.UnknownStyle = 1
@@ -22,7 +21,7 @@ pub data Answer (A : Type 0) : Type 0 where
   Gives : A → Answer A
   Refuses : ℕ → Answer A
 
--- the answer of a call whose outcome stands beside its value
-abbrev pub answer_by : {A : Type 0} → Outcome → A → Answer A
-answer_by Outcome.Done x = Gives x
-answer_by (Outcome.Refused r) x = Refuses (number_of r)
+-- the answer of a call as the documents have it
+abbrev pub answered : {A : Type 0} → Result A Refusal → Answer A
+answered (Ok x) = Gives x
+answered (Err r) = Refuses (number_of r)

@@ -1,11 +1,12 @@
 -- The two styles, and every setting their songs are written with. Definitions only.
-use Rattle.std.specs.Prelude.{false, ℕ, Float}
+use Rattle.std.specs.Prelude.{false, ℕ, zero, suc, Float, Result, Ok, Err}
 use Rattle.std.specs.Float.{binary32}
 use Rattle.std.specs.Float.Ieee.{of_bits}
 use Rattle.streams.specs.Draw.{chance_of}
 use Rattle.streams.specs.declared.stream.NoiseStream.{NoiseStream}
 use Rattle.streams.specs.declared.draw.ChanceDraw.{ChanceDraw}
 use Rattle.composer.specs.Spread.{between_of}
+use Rattle.composer.specs.declared.refusal.Refusal.{Refusal}
 use Rattle.composer.specs.declared.spread.Spread.{Spread}
 use Rattle.composer.specs.declared.style.Style.{Style}
 use Rattle.composer.specs.declared.style.Style.TheVariants.{Hiphop, Sleep}
@@ -20,6 +21,12 @@ use Rattle.composer.specs.declared.style.BassStyle.{BassStyle}
 abbrev pub style_number_of : Style → ℕ
 style_number_of Hiphop = 0
 style_number_of Sleep = 1
+
+-- the style of a number; there are two
+abbrev pub style_named : ℕ → Result Style Refusal
+style_named zero = Ok Hiphop
+style_named (suc zero) = Ok Sleep
+style_named (suc (suc n)) = Err Refusal.UnknownStyle
 
 -- what a style never does takes no draw
 unfoldable pub odds_of : Odds → NoiseStream → ChanceDraw

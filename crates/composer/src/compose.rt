@@ -1,6 +1,6 @@
 // A song of a style and a seed: each stage draws from its own stream.
 ghost use Rattle.std.specs.Prelude.{◌≡◌};
-ghost use Rattle.composer.specs.Compose.{beat_s_of, composed_of, no_score, refused_of, style_by, compose_of};
+ghost use Rattle.composer.specs.Compose.{beat_s_of, composed_of, no_score, style_by, compose_of};
 
 use crate::bass::bass;
 use crate::chord::NO_CHORD;
@@ -9,17 +9,16 @@ use crate::harmony::{Scale, harmony_of};
 use crate::keys::keys;
 use crate::lead::lead;
 use crate::note::{NO_HIT, NO_NOTE};
-use crate::refusal::{Outcome, Refusal};
+use crate::refusal::Refusal;
 use crate::score::{Counters, Score};
 use crate::style::Style;
 use crate::tempo::tempo;
 use crate::voice::{LeadVoice, lead_voice};
 use streams::stage::Stage;
 
-// A song's score, the scale that its lead sings and the counters of its seven streams, or why there is none.
+// A song's score, the scale that its lead sings and the counters of its seven streams.
 #[derive(Clone, Copy)]
 pub struct Composed {
-    pub outcome: Outcome,
     pub score: Score,
     pub scale: Scale,
     pub counters: Counters,
@@ -83,7 +82,6 @@ fn composed_of(style: Style, seed: u64) -> Composed
         voice: vd.stream.counter,
     };
     Composed {
-        outcome: Outcome::Done,
         score: score,
         scale: scale,
         counters: counters,
@@ -115,32 +113,6 @@ pub fn no_score() -> Score
     }
 }
 
-// A refusal, beside nothing.
-fn refused(r: Refusal) -> Composed
-    ensures { result ≡ refused_of r }
-{
-    let score = no_score();
-    let scale = Scale {
-        pcs: [0, 0, 0, 0, 0, 0],
-        n: 0,
-    };
-    let counters = Counters {
-        harmony: 0,
-        tempo: 0,
-        lead: 0,
-        keys: 0,
-        drums: 0,
-        bass: 0,
-        voice: 0,
-    };
-    Composed {
-        outcome: Outcome::Refused(r),
-        score: score,
-        scale: scale,
-        counters: counters,
-    }
-}
-
 // The style by its number, 0 or 1; any other number gives sleep, and who asks refuses it.
 pub fn style_by(number: u8) -> Style
     ensures { result ≡ style_by number }
@@ -152,15 +124,10 @@ pub fn style_by(number: u8) -> Style
     }
 }
 
-// The song of a seed in style 0 (hiphop) or 1 (sleep). Any other style is refused with 1, and then all else
-// in the answer is zero.
-pub fn compose(style: u8, seed: u64) -> Composed
+// The song of a seed in style 0 (hiphop) or 1 (sleep). Any other style is refused with 1.
+pub fn compose(style: u8, seed: u64) -> Result<Composed, Refusal>
     ensures { result ≡ compose_of style seed }
 {
-    if style > 1 {
-        return refused(Refusal::UnknownStyle);
-    }
-    // one call for both styles, so that its song is made where it is handed over
-    let known = style_by(style);
-    composed_of(known, seed)
+    let known = Style::try_from(style)?;
+    Ok(composed_of(known, seed))
 }

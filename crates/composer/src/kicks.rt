@@ -3,7 +3,7 @@ ghost use Rattle.std.specs.Prelude.{◌≡◌, ◌+◌, ◌<◌, ◌≤◌, take
 ghost use Rattle.composer.specs.Kicks.{is_kick, hear_of, kick_times, times_of, kicks_of, unbeaten_of};
 
 use crate::note::{DrumKind, Hit, NO_HIT};
-use crate::refusal::{Outcome, Refusal};
+use crate::refusal::Refusal;
 use crate::score::Score;
 use crate::sort::sort_front;
 
@@ -12,13 +12,6 @@ use crate::sort::sort_front;
 pub struct KickTimes {
     pub at: [f32; 98],
     pub n: usize,
-}
-
-// A refusal's times are empty.
-#[derive(Clone, Copy)]
-pub struct KicksAnswer {
-    pub outcome: Outcome,
-    pub times: KickTimes,
 }
 
 fn is_kick(kind: DrumKind) -> bool
@@ -65,30 +58,18 @@ fn heard(hits: [Hit; 98], n: usize) -> KickTimes
 }
 
 // The times of the kicks among the first `hit_count` hits, ascending: equal ones kept, -0 before 0, a NaN last. A
-// count of more than 98 is refused with 4, and then there are none.
-pub fn kicks(score: Score) -> KicksAnswer
+// count of more than 98 is refused with 4.
+pub fn kicks(score: Score) -> Result<KickTimes, Refusal>
     ensures { result ≡ kicks_of score }
 {
     let n = score.hit_count;
-    if n <= 98 {
-        let hits = score.hits;
-        let t = heard(hits, n);
-        let c = t.n;
-        let mut at = t.at;
-        sort_front(&mut at, c);
-        let times = KickTimes { at: at, n: c };
-        KicksAnswer {
-            outcome: Outcome::Done,
-            times: times,
-        }
-    } else {
-        let z = [0.0f32; 98];
-        let none = KickTimes { at: z, n: 0 };
-        KicksAnswer {
-            outcome: Outcome::Refused(Refusal::Malformed),
-            times: none,
-        }
+    if n > 98 {
+        return Err(Refusal::Malformed);
     }
+    let t = heard(score.hits, n);
+    let mut at = t.at;
+    sort_front(&mut at, t.n);
+    Ok(KickTimes { at, n: t.n })
 }
 
 // The score with no hits: their count 0, their entries zero, the rest kept. It refuses nothing.

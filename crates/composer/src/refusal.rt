@@ -2,7 +2,7 @@
 ghost use Rattle.std.specs.Prelude.{◌≡◌};
 ghost use Rattle.composer.specs.Refusal.{number_of};
 
-#[derive(Clone, Copy)]
+#[derive(Clone, Copy, Debug, PartialEq, Eq)]
 pub enum Refusal {
     UnknownStyle,
     ShortBuffer,
@@ -38,11 +38,4 @@ impl Refusal {
             Refusal::NoSeed => 12,
         }
     }
-}
-
-// How a call went whose value stands beside this: an enum can't hold an array.
-#[derive(Clone, Copy)]
-pub enum Outcome {
-    Done,
-    Refused(Refusal),
 }

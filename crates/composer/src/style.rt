@@ -1,12 +1,13 @@
 // The two styles, and every setting their songs are written with.
 ghost use Rattle.std.specs.Prelude.{◌≡◌};
-ghost use Rattle.composer.specs.Style.{style_number_of, odds_of, major_share_of, bpm_of, lead_style_of, keys_style_of, bass_style_of};
+ghost use Rattle.composer.specs.Style.{style_number_of, style_named, odds_of, major_share_of, bpm_of, lead_style_of, keys_style_of, bass_style_of};
 
+use crate::refusal::Refusal;
 use crate::spread::{Spread, between};
 use streams::draw::{ChanceDraw, chance};
 use streams::stream::NoiseStream;
 
-#[derive(Clone, Copy)]
+#[derive(Clone, Copy, Debug, PartialEq, Eq)]
 pub enum Style {
     Hiphop,
     Sleep,
@@ -20,6 +21,21 @@ impl Style {
         match self {
             Style::Hiphop => 0,
             Style::Sleep => 1,
+        }
+    }
+}
+
+// The style by its number; a number of none is refused.
+impl TryFrom<u8> for Style {
+    type Error = Refusal;
+
+    ghost try_from_gives = { λ n r. r ≡ style_named n };
+
+    fn try_from(n: u8) -> Result<Style, Refusal> {
+        match n {
+            0 => Ok(Style::Hiphop),
+            1 => Ok(Style::Sleep),
+            _ => Err(Refusal::UnknownStyle),
         }
     }
 }

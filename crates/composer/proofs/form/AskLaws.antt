@@ -3,19 +3,19 @@ use mathlib.Core.Path.{◌≡◌, sym, ap, ◌∙◌}
 use mathlib.Core.Bool.{true, and-eq-true_iff}
 use mathlib.Core.List.{List}
 use Prim.Native.Nat.{ℕ, ◌+◌, ◌≤◌, ◌<◌}
+use Rattle.std.proofs.Common.{Err}
 use native.Mathlib.Omega.{arith}
 use borrow.Author.Tests.{eqb-true, leb-true, le-leb, lt-leb}
 use lib.Dec.{eqb, leb}
 use lib.ListN.{length, set, get_or, replicate, length-replicate, replicate-append-replicate}
 use Rattle.laws.specs.Lists.{splice}
 use Rattle.laws.proofs.Splices.{splice_push}
-use Rattle.composer.specs.Refusal.{Gives}
+use Rattle.composer.specs.Refusal.{Gives, answered}
 use Rattle.composer.specs.Form.{parts_of}
 use Rattle.composer.specs.Form.Plays.{all, silent}
-use Rattle.composer.specs.Form.Ask.{sound_of, plays_of, plays_answered, filled}
+use Rattle.composer.specs.Form.Ask.{sound_of, plays_of, filled}
 use Rattle.composer.specs.declared.refusal.Refusal.{Refusal}
 use Rattle.composer.specs.declared.form.Form.{Form}
-use Rattle.composer.specs.declared.form.ask.PlaysAnswer.{PlaysAnswer}
 use Rattle.composer.specs.declared.form.plays.Plays.{Plays}
 
 pub sound_is : (f : Form) → sound_of f ≡ true → (parts_of f ≡ f.bars) × (parts_of f ≤ 64)
@@ -28,12 +28,12 @@ pub sound_bars : (f : Form) → sound_of f ≡ true → f.bars ≤ 64
 sound_bars f h = omega (arith, (sound_is f h).0, (sound_is f h).1)
 
 -- a bar of a sound form is found
-pub plays_found : (f : Form) → sound_of f ≡ true → (b : ℕ) → b < f.bars → plays_answered (plays_of f b) ≡ Gives (get_or f.plays b silent)
+pub plays_found : (f : Form) → sound_of f ≡ true → (b : ℕ) → b < f.bars → answered (plays_of f b) ≡ Gives (get_or f.plays b silent)
 unfolding plays_of
 plays_found f sound b h = rw (sound, lt-leb f.bars b h)
 
 -- and no other
-pub plays_past : (f : Form) → sound_of f ≡ true → (b : ℕ) → f.bars ≤ b → plays_of f b ≡ PlaysAnswer.Refused Refusal.NoSuchBar
+pub plays_past : (f : Form) → sound_of f ≡ true → (b : ℕ) → f.bars ≤ b → plays_of f b ≡ Err Refusal.NoSuchBar
 unfolding plays_of
 plays_past f sound b h = rw (sound, le-leb f.bars b h)
 

@@ -4,13 +4,13 @@ use Rattle.std.specs.Prelude.{◌≡◌, Bool, true, false, ◌&&◌, ◌⊎◌,
 use Rattle.laws.specs.Runs.{Among, RunsAtMost, lacking}
 use Rattle.streams.specs.Stage.{stream_of}
 use Rattle.streams.specs.declared.stage.Stage.{Stage}
-use Rattle.composer.specs.Refusal.{Answer, Gives, Refuses}
+use Rattle.composer.specs.Refusal.{Answer, Gives, Refuses, answered}
 use Rattle.composer.specs.Form.{intro_bars_of, body_bars_of, outro_bars_of, loop_bar_of}
 use Rattle.composer.specs.Form.Plays.{silent, all}
 use Rattle.composer.specs.Form.Decisions.{decide_of}
 use Rattle.composer.specs.Form.Body.{whole_break, cut_heard}
 use Rattle.composer.specs.Form.Song.{decisions_of}
-use Rattle.composer.specs.Form.Ask.{plays_of, plays_answered, beatless_form, beatless_of, form_answered}
+use Rattle.composer.specs.Form.Ask.{plays_of, beatless_form, beatless_of}
 use Rattle.composer.specs.Form.Spans.{edged_of}
 use Rattle.composer.specs.declared.form.Form.{Form}
 use Rattle.composer.specs.declared.form.plays.Plays.{Plays}
@@ -29,7 +29,7 @@ pub record BodyPromise (P : ℕ) (chord drums bass : ℕ → Bool) : Type 0 wher
 
 -- what `plays` answers of song bar b, as document 01 has it
 abbrev pub plays_at : Form → ℕ → Answer Plays
-plays_at f b = plays_answered (plays_of f b)
+plays_at f b = answered (plays_of f b)
 
 abbrev pub strikes : (Plays → Bool) → Answer Plays → Bool
 strikes layer (Gives p) = layer p
@@ -64,7 +64,7 @@ pub record FormPromise (seed : ℕ) (f : Form) : Type 0 where
 
 -- a form without its beat: the body plays all, no edge and no dip move, and the other bars keep their plays
 pub record BeatlessPromise (f : Form) : Type 0 where
-  pub answer : form_answered (beatless_of f) ≡ Gives (beatless_form f)
+  pub answer : answered (beatless_of f) ≡ Gives (beatless_form f)
   pub intro : (b : ℕ) → b < intro_bars_of f → plays_at (beatless_form f) b ≡ plays_at f b
   pub body : (b : ℕ) → b < body_bars_of f → plays_at (beatless_form f) (intro_bars_of f + b) ≡ Gives all
   pub outro : (b : ℕ) → intro_bars_of f + body_bars_of f ≤ b → plays_at (beatless_form f) b ≡ plays_at f b

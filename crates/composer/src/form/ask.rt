@@ -4,24 +4,11 @@ ghost use Rattle.composer.specs.Form.Ask.{sound_of, plays_of, filled, beatless_o
 
 use crate::form::Form;
 use crate::form::plays::{ALL, Plays};
-use crate::refusal::{Outcome, Refusal};
-
-#[derive(Clone, Copy)]
-pub enum PlaysAnswer {
-    Found(Plays),
-    Refused(Refusal),
-}
-
-// A refusal's form is the lent one.
-#[derive(Clone, Copy)]
-pub struct FormAnswer {
-    pub outcome: Outcome,
-    pub form: Form,
-}
+use crate::refusal::Refusal;
 
 // Whether the parts are the form's bars, and at most 64.
-fn is_sound(f: Form) -> bool
-    ensures { result ≡ sound_of f }
+fn is_sound(f: &Form) -> bool
+    ensures { result ≡ sound_of f.now }
 {
     let intro = f.intro_bars() as u16;
     let body = f.body_bars();
@@ -33,19 +20,18 @@ fn is_sound(f: Form) -> bool
 
 // The layers that strike in song bar `bar`. A form whose parts are not its bars, or are more than 64, is
 // refused with 4, then a bar that it does not have with 3.
-pub fn plays(f: Form, bar: usize) -> PlaysAnswer
-    ensures { result ≡ plays_of f bar }
+pub fn plays(f: &Form, bar: usize) -> Result<Plays, Refusal>
+    ensures { result ≡ plays_of f.now bar }
 {
     let sound = is_sound(f);
     if !sound {
-        return PlaysAnswer::Refused(Refusal::Malformed);
+        return Err(Refusal::Malformed);
     }
     let n = f.bars as usize;
     if n <= bar {
-        return PlaysAnswer::Refused(Refusal::NoSuchBar);
+        return Err(Refusal::NoSuchBar);
     }
-    let p = f.plays[bar];
-    PlaysAnswer::Found(p)
+    Ok(f.plays[bar])
 }
 
 // All layers strike in the n bars from a on.
@@ -63,33 +49,22 @@ fn fill(plays: [Plays; 64], a: u8, n: u16) -> [Plays; 64]
 }
 
 // The form that a band with no beat plays: its body plays all, its edges are plain, there is no dip, and the bars of
-// intro and outro keep their plays. A form whose parts are not its bars, or are more than 64, is refused with 4 and
-// handed back.
-pub fn beatless(f: Form) -> FormAnswer
-    ensures { result ≡ beatless_of f }
+// intro and outro keep their plays. A form whose parts are not its bars, or are more than 64, is refused with 4.
+pub fn beatless(f: &Form) -> Result<Form, Refusal>
+    ensures { result ≡ beatless_of f.now }
 {
     let sound = is_sound(f);
     if !sound {
-        return FormAnswer {
-            outcome: Outcome::Refused(Refusal::Malformed),
-            form: f,
-        };
+        return Err(Refusal::Malformed);
     }
-    let intro = f.intro;
-    let outro = f.outro;
-    let plays = f.plays;
     let n = f.intro_bars();
     let body = f.body_bars();
-    let form = Form {
-        intro: intro.plain(),
+    Ok(Form {
+        intro: f.intro.plain(),
         phrases: f.phrases,
-        outro: outro.plain(),
+        outro: f.outro.plain(),
         dip: false,
-        plays: fill(plays, n, body),
+        plays: fill(f.plays, n, body),
         bars: f.bars,
-    };
-    FormAnswer {
-        outcome: Outcome::Done,
-        form: form,
-    }
+    })
 }
