@@ -4,7 +4,7 @@ use mathlib.Core.List.{List}
 use Prim.Native.Nat.{ℕ, ◌^◌, ◌<◌}
 use native.Mathlib.Omega.{arith}
 use Rattle.composer.specs.Compose.{composed_of}
-use Rattle.composer.specs.Refusal.{Gives, answer_by}
+use Rattle.composer.specs.Refusal.{Gives}
 use Rattle.composer.specs.Style.{style_number_of}
 use Rattle.composer.specs.declared.refusal.Outcome.{Outcome}
 use Rattle.composer.specs.declared.score.Score.{Score}

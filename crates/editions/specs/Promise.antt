@@ -2,7 +2,7 @@
 use Rattle.std.specs.Prelude.{◌≡◌, List, ◌++◌, ℕ, ◌^◌, ◌≤◌, ◌<◌, length, drop}
 use Rattle.composer.specs.Compose.{composed_of}
 use Rattle.composer.specs.Form.Song.{arrange_of}
-use Rattle.composer.specs.Refusal.{Gives, Refuses}
+use Rattle.composer.specs.Refusal.{Gives, Refuses, answered}
 use Rattle.composer.specs.Style.{style_number_of}
 use Rattle.composer.specs.declared.style.Style.{Style}
 use Rattle.pages.specs.Answer.{Writes, CallAnswers}
@@ -10,7 +10,7 @@ use Rattle.pages.specs.Sheet.{sheet_in}
 use Rattle.pages.specs.declared.edition.Edition.{Edition}
 use Rattle.reader.specs.Composed.{told_in, composed_song}
 use Rattle.reader.specs.Promise.{Octets, Reads}
-use Rattle.reader.specs.Read.{read_of, read_answered}
+use Rattle.reader.specs.Read.{read_of}
 use Rattle.reader.specs.declared.song.Song.{Song}
 use Rattle.editions.specs.Convert.{named_asked, named_sheet, convert_asked}
 
@@ -67,8 +67,8 @@ pub record ConverterPromise : Type 0 where
 
 -- ---- lent the buffer b: 7, then 8, then 9, then 2; else the sheet of the style and the seed in the wanted edition
 pub record ConvertAnswers (wanted : Edition) (sheet b : List ℕ) : Type 0 where
-  pub fields : read_answered (read_of sheet) ≡ Refuses 7 → CallAnswers (convert_asked wanted sheet) b (Refuses 7) b
-  pub values : read_answered (read_of sheet) ≡ Refuses 8 → CallAnswers (convert_asked wanted sheet) b (Refuses 8) b
+  pub fields : answered (read_of sheet) ≡ Refuses 7 → CallAnswers (convert_asked wanted sheet) b (Refuses 7) b
+  pub values : answered (read_of sheet) ≡ Refuses 8 → CallAnswers (convert_asked wanted sheet) b (Refuses 8) b
   pub other : (v : Song) → Reads sheet v → (OfSeed v → ⊥) → CallAnswers (convert_asked wanted sheet) b (Refuses 9) b
   pub short : (v : Song) → Reads sheet v → OfSeed v → length b < length (named_sheet wanted v) → CallAnswers (convert_asked wanted sheet) b (Refuses 2) b
   pub written : (v : Song) → Reads sheet v → OfSeed v → length (named_sheet wanted v) ≤ length b

@@ -22,10 +22,10 @@ use Rattle.composer.specs.Refusal.{Gives}
 use Rattle.composer.specs.declared.refusal.Refusal.{Refusal}
 use Rattle.pages.specs.Answer.{Asked, Writes, Declines, bytes_of, written_of, buffer_of, CallAnswers}
 use Rattle.pages.specs.Bytes.{be64}
-use Rattle.pages.specs.declared.answer.Written.{Written}
 use Rattle.pages.proofs.AnswerLaws.{refused, served, call_answers, room_answers}
 use Rattle.pages.proofs.BytesLaws.{be64_injective}
 use Rattle.halls.specs.List.{list_bytes, is_outside, list_asked, ListAnswers, slot, ListPromise}
+use Rattle.std.proofs.Common.{Ok, Err}
 
 module _ (h : ℕ) where
   -- ---- one seed more
@@ -95,16 +95,16 @@ above n l = rw (le-ltb n 1 (omega arith), lt-ltb 4096 n l)
 
 -- ---- a call: refused by its count, whatever the buffer; then by the buffer; else served
 module _ (h n : ℕ) (b : List ℕ) where
-  pub list_outside : is_outside n ≡ true → (Written.Refused Refusal.HallCount ≡ written_of (length b) (list_asked h n)) × (b ≡ buffer_of b (list_asked h n))
+  pub list_outside : is_outside n ≡ true → (Err Refusal.HallCount ≡ written_of (length b) (list_asked h n)) × (b ≡ buffer_of b (list_asked h n))
   unfolding list_asked
   list_outside t = rw t (refl, refl)
 
-  pub list_short : is_outside n ≡ false → length b < 8 * n → (Written.Refused Refusal.ShortBuffer ≡ written_of (length b) (list_asked h n)) × (b ≡ buffer_of b (list_asked h n))
+  pub list_short : is_outside n ≡ false → length b < 8 * n → (Err Refusal.ShortBuffer ≡ written_of (length b) (list_asked h n)) × (b ≡ buffer_of b (list_asked h n))
   unfolding list_asked
   list_short t l = rw t (refused b (list_bytes h n) (omega (arith, length_bytes h n)))
 
   pub list_served : {b' : List ℕ} {r : ℕ} → is_outside n ≡ false → Wrote b b' 0 r (8 * n) (list_bytes h n)
-      → (Written.Bytes r ≡ written_of (length b) (list_asked h n)) × (b' ≡ buffer_of b (list_asked h n))
+      → (Ok r ≡ written_of (length b) (list_asked h n)) × (b' ≡ buffer_of b (list_asked h n))
   unfolding list_asked
   list_served t w = rw t (served w)
 

@@ -7,12 +7,13 @@ use borrow.Author.Tests.{ltb-false, lt-ltb, le-ltb}
 use lib.Dec.{ltb}
 use Rattle.composer.specs.declared.refusal.Outcome.{Outcome}
 use Rattle.composer.specs.declared.refusal.Refusal.{Refusal}
-use Rattle.lessons.specs.Lesson.{is_no_span, lesson_checked, Found, lesson_answered, Suits, LessonAllowed}
+use Rattle.lessons.specs.Lesson.{is_no_span, lesson_checked, Found, Suits, LessonAllowed}
 use Rattle.lessons.specs.Promise.{SeedSpan}
 use Rattle.lessons.specs.Wishes.{is_unknown}
-use Rattle.lessons.specs.declared.answer.Lesson.{Lesson}
 use Rattle.lessons.specs.declared.wishes.Wishes.{Wishes}
 use Rattle.lessons.proofs.SeedSpanLaws.{seeds_told}
+use Rattle.std.proofs.Common.{Result, Err}
+use Rattle.composer.specs.Refusal.{answered}
 
 pub not_done : (r : Refusal) → Outcome.Refused r ≡ Outcome.Done → ⊥
 not_done r e = let z : ◌≡◌ {A = ℕ} 0 1 = cc in omega arith
@@ -31,10 +32,10 @@ module _ (style start count : ℕ) (w : Wishes) where
   by_none h s u = rw (le-ltb 1 style h, s, u)
 
   -- the refusal is the answer
-  pub allowed_refused : (r : Refusal) → lesson_checked style start count w ≡ Outcome.Refused r → LessonAllowed style start count w (Lesson.Refused r)
+  pub allowed_refused : (r : Refusal) → lesson_checked style start count w ≡ Outcome.Refused r → LessonAllowed style start count w (Err r)
   allowed_refused r e = rw e refl
 
-  pub allowed_found : (x : Lesson) → lesson_checked style start count w ≡ Outcome.Done → Found (Suits style w) start count (lesson_answered x) → LessonAllowed style start count w x
+  pub allowed_found : (x : Result ℕ Refusal) → lesson_checked style start count w ≡ Outcome.Done → Found (Suits style w) start count (answered x) → LessonAllowed style start count w x
   allowed_found x e h = rw e h
 
 -- where nothing is refused, the style is known and the span is one

@@ -6,16 +6,16 @@ use Prim.Native.Nat.{ℕ, ◌≤◌, ◌<◌}
 use native.Mathlib.Omega.{arith}
 use borrow.Author.Tests.{lt-ltb, le-ltb, eq-eqb, ne_eqb}
 use lib.Dec.{ltb}
-use Rattle.composer.specs.Refusal.{number_of, Answer, Gives, Refuses}
+use Rattle.composer.specs.Refusal.{number_of, Answer, Gives, Refuses, answered}
 use Rattle.composer.specs.declared.refusal.Outcome.{Outcome}
 use Rattle.composer.specs.declared.refusal.Refusal.{Refusal}
-use Rattle.lessons.specs.Lesson.{lesson_checked, NoneFits, Found, lesson_answered, Suits, AllowedBy, LessonAllowed}
+use Rattle.lessons.specs.Lesson.{lesson_checked, NoneFits, Found, Suits, AllowedBy, LessonAllowed}
 use Rattle.lessons.specs.Promise.{SeedSpan, Known, LessonAnswers}
 use Rattle.lessons.specs.Wishes.{is_unknown}
-use Rattle.lessons.specs.declared.answer.Lesson.{Lesson}
 use Rattle.lessons.specs.declared.wishes.Wishes.{Wishes}
 use Rattle.lessons.proofs.CheckLaws.{not_done, by_style, by_span, by_wish, by_none}
 use Rattle.lessons.proofs.SeedSpanLaws.{seeds_none, seeds_many, seeds_past, seeds_are}
+use Rattle.std.proofs.Common.{Result}
 
 -- ---- wishes
 key_unknown : (w : Wishes) → 12 < w.key → is_unknown w ≡ true
@@ -31,11 +31,11 @@ wishes_known w k =
 
 -- ---- the answers
 -- a refusal of the checks is the answer
-told : (c : Outcome) (r : Refusal) (Fits : ℕ → Type 0) (start count : ℕ) (x : Lesson) → AllowedBy c Fits start count x → c ≡ Outcome.Refused r → lesson_answered x ≡ Refuses (number_of r)
+told : (c : Outcome) (r : Refusal) (Fits : ℕ → Type 0) (start count : ℕ) (x : Result ℕ Refusal) → AllowedBy c Fits start count x → c ≡ Outcome.Refused r → answered x ≡ Refuses (number_of r)
 told Outcome.Done r Fits start count x a e = absurd (not_done r (sym e))
-told (Outcome.Refused s) r Fits start count x a e = ap lesson_answered a ∙ ap (λ (q : Refusal). Refuses (number_of q)) (let z : s ≡ r = cc in z)
+told (Outcome.Refused s) r Fits start count x a e = ap answered a ∙ ap (λ (q : Refusal). Refuses (number_of q)) (let z : s ≡ r = cc in z)
 
-found_of : (c : Outcome) (Fits : ℕ → Type 0) (start count : ℕ) (x : Lesson) → AllowedBy c Fits start count x → c ≡ Outcome.Done → Found Fits start count (lesson_answered x)
+found_of : (c : Outcome) (Fits : ℕ → Type 0) (start count : ℕ) (x : Result ℕ Refusal) → AllowedBy c Fits start count x → c ≡ Outcome.Done → Found Fits start count (answered x)
 found_of Outcome.Done Fits start count x a e = a
 found_of (Outcome.Refused s) Fits start count x a e = absurd (not_done s e)
 
@@ -49,12 +49,12 @@ module _ (Fits : ℕ → Type 0) (start count : ℕ) where
   none_unfound (Gives s) h n = absurd (n s h.0 h.1)
   none_unfound (Refuses n) h f = ap Refuses h.0
 
-module _ (style start count : ℕ) (w : Wishes) (x : Lesson) where
+module _ (style start count : ℕ) (w : Wishes) (x : Result ℕ Refusal) where
   pub lesson_answers : LessonAllowed style start count w x → LessonAnswers style start count w x
   lesson_answers a =
       let c = lesson_checked style start count w in
-      let refused : (r : Refusal) → c ≡ Outcome.Refused r → lesson_answered x ≡ Refuses (number_of r) = λ r e. told c r (Suits style w) start count x a e in
-      let found : style < 2 → SeedSpan start count → Known w → Found (Suits style w) start count (lesson_answered x) =
+      let refused : (r : Refusal) → c ≡ Outcome.Refused r → answered x ≡ Refuses (number_of r) = λ r e. told c r (Suits style w) start count x a e in
+      let found : style < 2 → SeedSpan start count → Known w → Found (Suits style w) start count (answered x) =
       λ h s k. found_of c (Suits style w) start count x a (by_none style start count w (omega arith) (seeds_are start count s) (wishes_known w k)) in
       record {
         no_style = λ h. refused Refusal.UnknownStyle (by_style style start count w (omega arith));
@@ -64,5 +64,5 @@ module _ (style start count : ℕ) (w : Wishes) (x : Lesson) where
         key = λ h s k. refused Refusal.LessonWish (by_wish style start count w (omega arith) (seeds_are start count s) (key_unknown w k));
         voice = λ h s l n. refused Refusal.LessonWish (by_wish style start count w (omega arith) (seeds_are start count s) (voice_unknown w l n));
         found = found;
-        unfound = λ h s k. (unfound_none (Suits style w) start count (lesson_answered x) (found h s k), none_unfound (Suits style w) start count (lesson_answered x) (found h s k));
+        unfound = λ h s k. (unfound_none (Suits style w) start count (answered x) (found h s k), none_unfound (Suits style w) start count (answered x) (found h s k));
       }

@@ -1,11 +1,10 @@
 -- A seed for a lesson: what a call may answer. Definitions only.
-use Rattle.std.specs.Prelude.{◌≡◌, Bool, cond, ◌||◌, ℕ, ◌+◌, ◌-◌, ◌^◌, ◌≤◌, ◌<◌, ltb}
+use Rattle.std.specs.Prelude.{◌≡◌, Bool, cond, ◌||◌, ℕ, ◌+◌, ◌-◌, ◌^◌, ◌≤◌, ◌<◌, ltb, Result, Ok, Err}
 use Rattle.composer.specs.Compose.{compose_of}
-use Rattle.composer.specs.Refusal.{number_of, Answer, Gives, Refuses}
+use Rattle.composer.specs.Refusal.{number_of, Answer, Gives, Refuses, answered}
 use Rattle.composer.specs.declared.refusal.Outcome.{Outcome}
 use Rattle.composer.specs.declared.refusal.Refusal.{Refusal}
 use Rattle.lessons.specs.Wishes.{Has, is_unknown}
-use Rattle.lessons.specs.declared.answer.Lesson.{Lesson}
 use Rattle.lessons.specs.declared.wishes.Wishes.{Wishes}
 
 -- no span: of 0 or more than 65,536 seeds, or with its last seed past the largest
@@ -36,19 +35,19 @@ Found Fits start count (Refuses n) = (n ≡ 12) × NoneFits Fits start count
 
 -- ---- the answers
 -- as document 02 has them: the seed, or the number alone
-abbrev pub lesson_answered : Lesson → Answer ℕ
-lesson_answered (Lesson.Seed seed) = Gives seed
-lesson_answered (Lesson.Refused r) = Refuses (number_of r)
+abbrev pub answered : Result ℕ Refusal → Answer ℕ
+answered (Ok seed) = Gives seed
+answered (Err r) = Refuses (number_of r)
 
 -- the song that `compose` gives for the style and the seed has what is wished
 abbrev pub Suits : ℕ → Wishes → ℕ → Type 0
 Suits style w seed = Has w (compose_of style seed)
 
 -- the refusals come first
-abbrev pub AllowedBy : Outcome → (ℕ → Type 0) → ℕ → ℕ → Lesson → Type 0
-AllowedBy Outcome.Done Fits start count x = Found Fits start count (lesson_answered x)
-AllowedBy (Outcome.Refused r) Fits start count x = x ≡ Lesson.Refused r
+abbrev pub AllowedBy : Outcome → (ℕ → Type 0) → ℕ → ℕ → Result ℕ Refusal → Type 0
+AllowedBy Outcome.Done Fits start count x = Found Fits start count (answered x)
+AllowedBy (Outcome.Refused r) Fits start count x = x ≡ Err r
 
 -- those that a call may give
-abbrev pub LessonAllowed : ℕ → ℕ → ℕ → Wishes → Lesson → Type 0
+abbrev pub LessonAllowed : ℕ → ℕ → ℕ → Wishes → Result ℕ Refusal → Type 0
 LessonAllowed style start count w x = AllowedBy (lesson_checked style start count w) (Suits style w) start count x

@@ -43,7 +43,7 @@ use Rattle.pages.specs.declared.edition.Edition.{Edition}
 use Rattle.pages.specs.declared.lane.Lane.{Lane}
 use Rattle.pages.proofs.AnswerLaws.{room_answers}
 use Rattle.pages.proofs.LaneLaws.{shown_size}
-use Rattle.pages.proofs.PageLaws.{composed_is, page_found}
+use Rattle.pages.proofs.PageLaws.{page_found}
 use Rattle.pages.proofs.ReadLaws.{chord_body, lead_body, keys_body, hits_body, bass_body, plays_body}
 use Rattle.pages.proofs.ScoreLaws.{chord_some, bass_some, lead_shown, bass_shown}
 use Rattle.pages.proofs.SheetLaws.{seed_sheet}
@@ -221,19 +221,20 @@ module _ (style : Style) (seed : ℕ) where
 
   pub demand_3 : Demand3 style seed
   demand_3 = record {
+    song = (song_promise style seed).given;
     written = λ b h. let k = form.found b h in page_written style seed b k.0 k.1;
     sheet_written = sheet_written style seed;
     sheet_bars = sheet_bars style seed;
     inside = omega (arith, form.song_bars);
     phrases = form.phrases;
     body = body;
-    entries = rw (composed_is style seed) ((song_promise style seed).score.scale_least, (song_promise style seed).score.scale_most, (song_promise style seed).score.scale_size);
-    chord_count = rw (composed_is style seed) (song_promise style seed).score.chord_count;
-    chords = rw (composed_is style seed) (song_promise style seed).score.chords;
+    entries = ((song_promise style seed).score.scale_least, (song_promise style seed).score.scale_most, (song_promise style seed).score.scale_size);
+    chord_count = (song_promise style seed).score.chord_count;
+    chords = (song_promise style seed).score.chords;
     whole = λ b h. let k = form.found b h in notes_whole style seed b k.0 k.1;
-    chord = rw (composed_is style seed) (λ b h. let k = form.found b h in chord_read style seed b k.0 k.1);
+    chord = (λ b h. let k = form.found b h in chord_read style seed b k.0 k.1);
     over_chord = over_chord;
-    eight = rw (composed_is style seed) eight_chords;
-    lead = rw (composed_is style seed) (λ b h. let k = form.found b h in lead_sings style seed b k.0 k.1);
-    bass = rw (composed_is style seed) (λ b h. let k = form.found b h in bass_sounds style seed b k.0 k.1);
+    eight = eight_chords;
+    lead = (λ b h. let k = form.found b h in lead_sings style seed b k.0 k.1);
+    bass = (λ b h. let k = form.found b h in bass_sounds style seed b k.0 k.1);
   }

@@ -17,11 +17,10 @@ use Rattle.laws.proofs.Sums.{sum_two, sum_same, sum_none, sum_once}
 use Rattle.composer.specs.Compose.{beat_s_of, composed_of}
 use Rattle.composer.specs.Early.{is_early, hits_for, late_for, early_for, EarlyPromise}
 use Rattle.composer.specs.Form.{loop_bar_of}
-use Rattle.composer.specs.Form.Ask.{sound_of, plays_of, plays_answered}
+use Rattle.composer.specs.Form.Ask.{sound_of, plays_of}
 use Rattle.composer.specs.Form.Promise.{strikes}
 use Rattle.composer.specs.Form.Song.{arrange_of}
 use Rattle.composer.specs.declared.form.Form.{Form}
-use Rattle.composer.specs.declared.form.ask.PlaysAnswer.{PlaysAnswer}
 use Rattle.composer.specs.declared.note.Hit.{Hit}
 use Rattle.composer.specs.declared.refusal.Refusal.{Refusal}
 use Rattle.composer.specs.declared.score.Score.{Score}
@@ -36,14 +35,16 @@ use Rattle.pages.specs.Lane.{hit_bytes}
 use Rattle.pages.proofs.Demand3.{hits_read, drums_told}
 use Rattle.pages.proofs.HitsLaws.{hits_bytes, page_hits_most}
 use Rattle.pages.proofs.LaneLaws.{filter_shown}
-use Rattle.pages.proofs.PageLaws.{composed_is}
+use Rattle.std.proofs.Common.{Result, Err}
+use Rattle.composer.specs.Refusal.{answered}
+use Rattle.composer.specs.declared.form.plays.Plays.{Plays}
 
 -- a bar past the song plays nothing
 pub past_silent : (f : Form) (b : ℕ) → f.bars ≤ b → plays_drums f b ≡ false
 unfolding plays_of
 past_silent f b h =
     rw (le-leb f.bars b h)
-    (either (λ (a : PlaysAnswer). strikes (λ p. p.drums) (plays_answered a) ≡ false) (sound_of f) (PlaysAnswer.Refused Refusal.NoSuchBar) (PlaysAnswer.Refused Refusal.Malformed) refl refl)
+    (either (λ (a : Result Plays Refusal). strikes (λ p. p.drums) (answered a) ≡ false) (sound_of f) (Err Refusal.NoSuchBar) (Err Refusal.Malformed) refl refl)
 
 -- ---- as often as q counts
 module _ (q : Hit → Bool) (s : Score) (f : Form) where
@@ -168,8 +169,8 @@ module _ (style : Style) (seed : ℕ) where
   heard_promise =
       let p = (song_promise style seed).score in
       record {
-        placed = rw (composed_is style seed) (hits_placed song (arrange_of seed));
-        held = rw (composed_is style seed) (λ b h. let k = (arranged_promise seed).found b h in hits_read style seed b k.0 k.1);
-        few = rw (composed_is style seed) (page_hits_most song p.bars p.early (arrange_of seed));
+        placed = hits_placed song (arrange_of seed);
+        held = (λ b h. let k = (arranged_promise seed).found b h in hits_read style seed b k.0 k.1);
+        few = (page_hits_most song p.bars p.early (arrange_of seed));
         by_bit = by_bit;
       }

@@ -14,23 +14,22 @@ use Rattle.laws.proofs.Writes.{wrote_as}
 use Rattle.composer.specs.Chord.{past_chord}
 use Rattle.composer.specs.Compose.{composed_of, compose_of}
 use Rattle.composer.specs.Form.{loop_bar_of}
-use Rattle.composer.specs.Form.Ask.{sound_of, plays_of, plays_answered}
+use Rattle.composer.specs.Form.Ask.{sound_of, plays_of}
 use Rattle.composer.specs.Form.Plays.{silent}
 use Rattle.composer.specs.Form.Promise.{plays_at}
 use Rattle.composer.specs.Form.Song.{arrange_of}
 use Rattle.composer.specs.Harmony.{notes_in, notes_of}
 use Rattle.composer.specs.Note.{note_bar}
 use Rattle.composer.specs.Promise.{LanesPromise, BarsPromise}
-use Rattle.composer.specs.Refusal.{Gives}
+use Rattle.composer.specs.Refusal.{Gives, answered}
 use Rattle.composer.specs.Style.{style_number_of}
 use Rattle.composer.specs.declared.form.Form.{Form}
-use Rattle.composer.specs.declared.form.ask.PlaysAnswer.{PlaysAnswer}
 use Rattle.composer.specs.declared.form.plays.Plays.{Plays}
 use Rattle.composer.specs.declared.note.Hit.{Hit}
 use Rattle.composer.specs.declared.refusal.Refusal.{Refusal}
 use Rattle.composer.specs.declared.score.Score.{Score}
 use Rattle.composer.specs.declared.style.Style.{Style}
-use Rattle.composer.proofs.ComposeLaws.{composed_done, song_promise}
+use Rattle.composer.proofs.ComposeLaws.{composed_is, song_promise}
 use Rattle.composer.proofs.form.AskLaws.{plays_past}
 use Rattle.composer.proofs.form.SongLaws.{arranged_sound}
 use Rattle.pages.specs.Answer.{Writes, Declines, bytes_of}
@@ -51,6 +50,7 @@ use Rattle.pages.proofs.BytesLaws.{length_field, edition_length}
 use Rattle.pages.proofs.HitsLaws.{hits_length, page_hits_most}
 use Rattle.pages.proofs.WritableLaws.{sized}
 use Rattle.pages.proofs.LaneLaws.{note_bar_lem, count_small, run_drawn, run_within, run_length, drawn_count, shown_most, shown_size}
+use Rattle.std.proofs.Common.{Result, Ok, Err}
 
 -- a bar's chord has four notes
 pub chord_notes : (s : Score) → Chorded s → (bar : ℕ) → bar < 8 → length (get_or (notes_of s.bar_chords) bar []) ≡ 4
@@ -134,9 +134,9 @@ bars_most s p bar hits each few =
     )
 
 -- ---- of every style's number, seed and bar; a refusal writes nothing
-by_most : (a : PlaysAnswer) (s : Score) (bar : ℕ) (hits : List Hit) (m : ℕ) → ((p : Plays) → length (page_bytes s p bar hits) ≤ m) → length (bytes_of (page_by a s bar hits)) ≤ m
-by_most (PlaysAnswer.Found p) s bar hits m h = h p
-by_most (PlaysAnswer.Refused r) s bar hits m h = omega arith
+by_most : (a : Result Plays Refusal) (s : Score) (bar : ℕ) (hits : List Hit) (m : ℕ) → ((p : Plays) → length (page_bytes s p bar hits) ≤ m) → length (bytes_of (page_by a s bar hits)) ≤ m
+by_most (Ok p) s bar hits m h = h p
+by_most (Err r) s bar hits m h = omega arith
 
 song_most : (style : Style) (seed b : ℕ) → length (bytes_of (page_of (composed_of style seed).score (arrange_of seed) b)) ≤ page_most
 song_most style seed b =
@@ -149,27 +149,22 @@ song_most style seed b =
 
 pub page_most_lem : (style seed b : ℕ) → length (bytes_of (page_asked style seed b)) ≤ page_most
 unfolding page_asked
-page_most_lem zero seed b = asked_most (composed_of Style.Hiphop seed).outcome (page_of (composed_of Style.Hiphop seed).score (arrange_of seed) b) page_most (song_most Style.Hiphop seed b)
-page_most_lem (suc zero) seed b = asked_most (composed_of Style.Sleep seed).outcome (page_of (composed_of Style.Sleep seed).score (arrange_of seed) b) page_most (song_most Style.Sleep seed b)
+page_most_lem zero seed b = song_most Style.Hiphop seed b
+page_most_lem (suc zero) seed b = song_most Style.Sleep seed b
 page_most_lem (suc (suc n)) seed b = omega arith
 
 -- ---- which bars have a page
--- a style's number is the style's
-pub composed_is : (style : Style) (seed : ℕ) → compose_of (style_number_of style) seed ≡ composed_of style seed
-composed_is Style.Hiphop seed = refl
-composed_is Style.Sleep seed = refl
-
-found_is : (a : PlaysAnswer) (p : Plays) → plays_answered a ≡ Gives p → a ≡ PlaysAnswer.Found p
-found_is (PlaysAnswer.Found q) p e = cc
-found_is (PlaysAnswer.Refused r) p e = cc
+found_is : (a : Result Plays Refusal) (p : Plays) → answered a ≡ Gives p → a ≡ Ok p
+found_is (Ok q) p e = cc
+found_is (Err r) p e = cc
 
 -- a bar that is found is one of the form's
-pub found_below : (f : Form) (b : ℕ) (p : Plays) → plays_of f b ≡ PlaysAnswer.Found p → b < f.bars
+pub found_below : (f : Form) (b : ℕ) (p : Plays) → plays_of f b ≡ Ok p → b < f.bars
 unfolding plays_of
 found_below f b p = go (sound_of f) (leb f.bars b) refl
   where
     go : (sound past : Bool) → leb f.bars b ≡ past
-        → cond sound (cond past (PlaysAnswer.Refused Refusal.NoSuchBar) (PlaysAnswer.Found (get_or f.plays b silent))) (PlaysAnswer.Refused Refusal.Malformed) ≡ PlaysAnswer.Found p → b < f.bars
+        → cond sound (cond past (Err Refusal.NoSuchBar) (Ok (get_or f.plays b silent))) (Err Refusal.Malformed) ≡ Ok p → b < f.bars
     go true true e h = let z : ◌≡◌ {A = ℕ} 0 1 = cc in absurd (omega arith)
     go true false e h = leb-false f.bars b e
     go false past e h = let z : ◌≡◌ {A = ℕ} 0 1 = cc in absurd (omega arith)
@@ -179,9 +174,9 @@ module _ (style : Style) (seed b : ℕ) where
   pub page_found : (p : Plays) → plays_at (arrange_of seed) b ≡ Gives p
       → page_asked (style_number_of style) seed b ≡ Writes (page_bytes (composed_of style seed).score p (loop_bar_of (arrange_of seed) b) (page_hits (composed_of style seed).score (arrange_of seed) b))
   unfolding page_asked
-  page_found p plays = rw (composed_is style seed, composed_done style seed, found_is (plays_of (arrange_of seed) b) p plays)
+  page_found p plays = rw (composed_is style seed, found_is (plays_of (arrange_of seed) b) p plays)
 
   -- any other is refused with 3
   pub page_past : (arrange_of seed).bars ≤ b → page_asked (style_number_of style) seed b ≡ Declines Refusal.NoSuchBar
   unfolding page_asked
-  page_past h = rw (composed_is style seed, composed_done style seed, plays_past (arrange_of seed) (arranged_sound seed) b h)
+  page_past h = rw (composed_is style seed, plays_past (arrange_of seed) (arranged_sound seed) b h)

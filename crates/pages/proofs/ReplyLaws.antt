@@ -11,7 +11,7 @@ use Rattle.composer.specs.declared.refusal.Refusal.{Refusal}
 use Rattle.pages.specs.Answer.{Asked, Writes, Declines, bytes_of, written_of, buffer_of}
 use Rattle.pages.specs.Bytes.{field}
 use Rattle.pages.specs.Reply.{reply_bytes, replied_length, replied_buffer, length_after, buffer_after}
-use Rattle.pages.specs.declared.answer.Written.{Written}
+use Rattle.std.proofs.Common.{Result}
 
 reply_most : (a : Asked) (m : ℕ) → 4 ≤ m → length (bytes_of a) ≤ m → length (reply_bytes a) ≤ m
 unfolding field
@@ -39,7 +39,7 @@ module _ (most : ℕ) (a : Asked) (b : List ℕ) where
   replied_whole h e f = rw (le-ltb (length b) most h) (e, f)
 
   -- a call, then its reply
-  pub replied_after : {w : Written} {n : ℕ} {b' b'' : List ℕ} → most ≤ length b → length (bytes_of a) ≤ most → w ≡ written_of (length b) a → b' ≡ buffer_of b a
+  pub replied_after : {w : Result ℕ Refusal} {n : ℕ} {b' b'' : List ℕ} → most ≤ length b → length (bytes_of a) ≤ most → w ≡ written_of (length b) a → b' ≡ buffer_of b a
       → n ≡ length_after w → b'' ≡ buffer_after w b' → (n ≡ replied_length most (length b) a) × (b'' ≡ replied_buffer most b a)
   replied_after h k p q e f =
       let g = reply_after a b (omega arith) in

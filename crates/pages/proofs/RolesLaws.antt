@@ -17,7 +17,6 @@ use Rattle.composer.proofs.form.Arranged.{arranged_promise}
 use Rattle.pages.specs.Demand3.{page_at}
 use Rattle.pages.specs.Roles.{IsRole, RolesShown}
 use Rattle.pages.proofs.Demand3.{lead_read, keys_read, bass_read}
-use Rattle.pages.proofs.PageLaws.{composed_is}
 use Rattle.pages.proofs.ScoreLaws.{lead_role, keys_role, bass_role}
 
 module _ (style : Style) (seed b : ℕ) (p : Plays) (plays : plays_at (arrange_of seed) b ≡ Gives p) where
@@ -47,9 +46,9 @@ module _ (style : Style) (seed b : ℕ) (p : Plays) (plays : plays_at (arrange_o
 
 pub roles_shown : (style : Style) (seed : ℕ) → RolesShown style seed
 roles_shown style seed = record {
-  lead_notes = rw (composed_is style seed) (lead_read style seed);
-  keys_notes = rw (composed_is style seed) (keys_read style seed);
-  bass_notes = rw (composed_is style seed) (bass_read style seed);
+  lead_notes = lead_read style seed;
+  keys_notes = keys_read style seed;
+  bass_notes = bass_read style seed;
   lead = λ b h. let k = (arranged_promise seed).found b h in lead_is style seed b k.0 k.1;
   keys = λ b h. let k = (arranged_promise seed).found b h in keys_is style seed b k.0 k.1;
   bass = λ b h. let k = (arranged_promise seed).found b h in bass_is style seed b k.0 k.1;

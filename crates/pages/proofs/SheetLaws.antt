@@ -22,7 +22,7 @@ use Rattle.composer.specs.declared.form.Form.{Form}
 use Rattle.composer.specs.declared.harmony.Scale.{Scale}
 use Rattle.composer.specs.declared.score.Score.{Score}
 use Rattle.composer.specs.declared.style.Style.{Style}
-use Rattle.composer.proofs.ComposeLaws.{composed_done, song_promise}
+use Rattle.composer.proofs.ComposeLaws.{composed_is, song_promise}
 use Rattle.composer.proofs.form.Arranged.{arranged_promise}
 use Rattle.pages.specs.Answer.{Writes, bytes_of}
 use Rattle.pages.specs.Edition.{note_width, edition_size, sheet_most}
@@ -34,7 +34,6 @@ use Rattle.pages.specs.declared.lane.Lane.{Lane}
 use Rattle.pages.proofs.AnswerLaws.{asked_most}
 use Rattle.pages.proofs.BytesLaws.{length_field, edition_length}
 use Rattle.pages.proofs.LaneLaws.{widths, length_events}
-use Rattle.pages.proofs.PageLaws.{composed_is}
 use Rattle.pages.proofs.WritableLaws.{sized}
 
 -- ---- chords
@@ -92,7 +91,7 @@ counts_most Edition.Two scale lead keys hits bass bars a b c d e f = omega arith
 pub seed_sheet : (edition : Edition) (style : Style) (seed : ℕ)
     → sheet_in edition (style_number_of style) seed ≡ Writes (sheet_bytes edition seed (composed_of style seed).score (composed_of style seed).scale (arrange_of seed))
 unfolding sheet_in
-seed_sheet edition style seed = rw (composed_is style seed, composed_done style seed)
+seed_sheet edition style seed = rw (composed_is style seed)
 
 module _ (edition : Edition) where
   song_most : (style : Style) (seed : ℕ) → length (sheet_bytes edition seed (composed_of style seed).score (composed_of style seed).scale (arrange_of seed)) ≤ sheet_most edition
@@ -104,10 +103,8 @@ module _ (edition : Edition) where
   -- of every style's number; a refusal writes nothing
   pub sheet_in_most : (style seed : ℕ) → length (bytes_of (sheet_in edition style seed)) ≤ sheet_most edition
   unfolding sheet_in
-  sheet_in_most zero seed =
-      asked_most (composed_of Style.Hiphop seed).outcome (Writes (sheet_bytes edition seed (composed_of Style.Hiphop seed).score (composed_of Style.Hiphop seed).scale (arrange_of seed))) (sheet_most edition) (song_most Style.Hiphop seed)
-  sheet_in_most (suc zero) seed =
-      asked_most (composed_of Style.Sleep seed).outcome (Writes (sheet_bytes edition seed (composed_of Style.Sleep seed).score (composed_of Style.Sleep seed).scale (arrange_of seed))) (sheet_most edition) (song_most Style.Sleep seed)
+  sheet_in_most zero seed = song_most Style.Hiphop seed
+  sheet_in_most (suc zero) seed = song_most Style.Sleep seed
   sheet_in_most (suc (suc n)) seed = omega arith
 
 -- as sheets are asked for

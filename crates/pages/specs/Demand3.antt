@@ -3,12 +3,12 @@
 use Rattle.std.specs.Prelude.{◌≡◌, Bool, true, cond, List, [], ◌++◌, ℕ, zero, suc, ◌+◌, ◌*◌, ◌/◌, ◌%◌, ◌≤◌, ◌<◌, eqb, ltb, length, get_or, take, drop}
 use Rattle.composer.specs.Bass.Promise.{SoundsIn}
 use Rattle.composer.specs.Chord.{past_chord, RootPosition}
-use Rattle.composer.specs.Compose.{compose_of}
+use Rattle.composer.specs.Compose.{composed_of, compose_of}
 use Rattle.composer.specs.Form.{intro_bars_of, loop_bar_of}
 use Rattle.composer.specs.Form.Promise.{BodyPromise}
 use Rattle.composer.specs.Form.Song.{arrange_of}
 use Rattle.composer.specs.Promise.{Sings}
-use Rattle.composer.specs.Refusal.{Gives}
+use Rattle.composer.specs.Refusal.{Gives, answered}
 use Rattle.composer.specs.Style.{style_number_of}
 use Rattle.composer.specs.declared.chord.Chord.{Chord}
 use Rattle.composer.specs.declared.compose.Composed.{Composed}
@@ -50,9 +50,9 @@ abbrev pub drum_bit : List ℕ → ℕ → Bool
 drum_bit sheet b = eqb (get_or (plays_in sheet) b 0 / 4 % 2) 1
 
 -- ---- all pages of a song
--- what compose gives for this style and seed
+-- what compose gives for this style and seed: `song` of `Demand3`
 abbrev pub song_of : Style → ℕ → Composed
-song_of style seed = compose_of (style_number_of style) seed
+song_of style seed = composed_of style seed
 
 -- the chord of a loop bar
 abbrev pub chord_at : Style → ℕ → ℕ → Chord
@@ -76,6 +76,8 @@ body_page style seed b = page_at style seed (intro_bars_of (arrange_of seed) + b
 
 -- what a lead note and a bass note may be is the composer's `Sings` and `SoundsIn`
 pub record Demand3 (style : Style) (seed : ℕ) : Type 0 where
+  -- the song that is spoken of is the one that compose gives
+  pub song : answered (compose_of (style_number_of style) seed) ≡ Gives (song_of style seed)
   -- for every song bar, intro and outro included, bar page writes this page into a buffer long enough: `CallAnswers`
   -- is about the `written_of` and the `buffer_of` of the contract of `bar_page`
   pub written : (b : ℕ) → b < (arrange_of seed).bars → (buf : List ℕ) → length (page_at style seed b) ≤ length buf

@@ -1,5 +1,5 @@
 -- The bar page: what one bar of the song shows, in edition 2. Definitions only.
-use Rattle.std.specs.Prelude.{◌≡◌, Bool, cond, List, [], ◌++◌, ℕ, ◌+◌, ◌*◌, ◌<◌, length, get_or}
+use Rattle.std.specs.Prelude.{◌≡◌, Bool, cond, List, [], ◌++◌, ℕ, ◌+◌, ◌*◌, ◌<◌, length, get_or, Result, Ok, Err}
 use Rattle.laws.specs.Lists.{joined}
 use Rattle.composer.specs.Chord.{past_chord}
 use Rattle.composer.specs.Compose.{compose_of}
@@ -8,7 +8,6 @@ use Rattle.composer.specs.Form.Ask.{plays_of}
 use Rattle.composer.specs.Form.Song.{arrange_of}
 use Rattle.composer.specs.Harmony.{notes_of}
 use Rattle.composer.specs.declared.form.Form.{Form}
-use Rattle.composer.specs.declared.form.ask.PlaysAnswer.{PlaysAnswer}
 use Rattle.composer.specs.declared.form.plays.Plays.{Plays}
 use Rattle.composer.specs.declared.note.Hit.{Hit}
 use Rattle.composer.specs.declared.score.Score.{Score}
@@ -21,6 +20,7 @@ use Rattle.pages.specs.Lane.{tag_of, width_of, events_of, run_size, drawn_for, r
 use Rattle.pages.specs.declared.edition.Edition.{Edition}
 use Rattle.pages.specs.declared.lane.Lane.{Lane}
 use Rattle.pages.specs.declared.page.Runs.{Runs}
+use Rattle.composer.specs.declared.refusal.Refusal.{Refusal}
 
 -- each loop bar has a chord, of four notes
 abbrev pub Chorded : Score → Type 0
@@ -71,9 +71,9 @@ runs_size pad runs hits =
     + 10 * hits + run_size Lane.Bass runs.bass
 
 -- a look-up that is refused is passed on
-abbrev pub page_by : PlaysAnswer → Score → ℕ → List Hit → Asked
-page_by (PlaysAnswer.Found p) s bar hits = Writes (page_bytes s p bar hits)
-page_by (PlaysAnswer.Refused r) s bar hits = Declines r
+abbrev pub page_by : Result Plays Refusal → Score → ℕ → List Hit → Asked
+page_by (Ok p) s bar hits = Writes (page_bytes s p bar hits)
+page_by (Err r) s bar hits = Declines r
 
 abbrev pub page_of : Score → Form → ℕ → Asked
 page_of s f b = page_by (plays_of f b) s (loop_bar_of f b) (page_hits s f b)
@@ -81,5 +81,4 @@ page_of s f b = page_by (plays_of f b) s (loop_bar_of f b) (page_hits s f b)
 -- what the page of a song bar has to write
 unfoldable pub page_asked : ℕ → ℕ → ℕ → Asked
 page_asked style seed b =
-    let song = compose_of style seed in
-    asked_by song.outcome (page_of song.score (arrange_of seed) b)
+    asked_by (compose_of style seed) (λ song. page_of song.score (arrange_of seed) b)

@@ -1,11 +1,10 @@
 -- What a program writes for what a call has to write: its bytes, or one field with the number of its refusal.
 -- Definitions only.
-use Rattle.std.specs.Prelude.{cond, List, [], ◌∷◌, ◌++◌, ℕ, ltb, length, drop}
-use Rattle.composer.specs.Refusal.{number_of}
+use Rattle.std.specs.Prelude.{cond, List, [], ◌∷◌, ◌++◌, ℕ, ltb, length, drop, Result, Ok, Err}
+use Rattle.composer.specs.Refusal.{number_of, answered}
 use Rattle.composer.specs.declared.refusal.Refusal.{Refusal}
 use Rattle.pages.specs.Answer.{Asked, Writes, Declines}
 use Rattle.pages.specs.Bytes.{field}
-use Rattle.pages.specs.declared.answer.Written.{Written}
 
 -- one field with tag 0x7f whose single byte is the refusal
 abbrev pub refusal_field : Refusal → List ℕ
@@ -23,10 +22,10 @@ abbrev pub replied_buffer : ℕ → List ℕ → Asked → List ℕ
 replied_buffer most b a = cond (ltb (length b) most) b (reply_bytes a ++ drop (length (reply_bytes a)) b)
 
 -- ---- after the call has answered and left the buffer b: how long the reply is, and the buffer with it
-abbrev pub length_after : Written → ℕ
-length_after (Written.Bytes n) = n
-length_after (Written.Refused r) = length (refusal_field r)
+abbrev pub length_after : Result ℕ Refusal → ℕ
+length_after (Ok n) = n
+length_after (Err r) = length (refusal_field r)
 
-abbrev pub buffer_after : Written → List ℕ → List ℕ
-buffer_after (Written.Bytes n) b = b
-buffer_after (Written.Refused r) b = refusal_field r ++ drop (length (refusal_field r)) b
+abbrev pub buffer_after : Result ℕ Refusal → List ℕ → List ℕ
+buffer_after (Ok n) b = b
+buffer_after (Err r) b = refusal_field r ++ drop (length (refusal_field r)) b

@@ -1,5 +1,5 @@
 -- The sheet: a whole song in ten fields, and before them the edition's. Definitions only.
-use Rattle.std.specs.Prelude.{cond, List, [], ◌∷◌, ◌++◌, map, ℕ, ◌+◌, take}
+use Rattle.std.specs.Prelude.{Result, cond, List, [], ◌∷◌, ◌++◌, map, ℕ, ◌+◌, take}
 use Rattle.laws.specs.Lists.{joined}
 use Rattle.composer.specs.Compose.{compose_of}
 use Rattle.composer.specs.Form.{intro_bars_of, outro_bars_of}
@@ -11,6 +11,7 @@ use Rattle.composer.specs.Lead.Scale.{pcs_of}
 use Rattle.composer.specs.Style.{style_number_of}
 use Rattle.composer.specs.Voice.{voice_number_of}
 use Rattle.composer.specs.declared.compose.Composed.{Composed}
+use Rattle.composer.specs.declared.refusal.Refusal.{Refusal}
 use Rattle.composer.specs.declared.form.Form.{Form}
 use Rattle.composer.specs.declared.harmony.Scale.{Scale}
 use Rattle.composer.specs.declared.score.Score.{Score}
@@ -77,8 +78,8 @@ abbrev pub lanes_size : Edition → Score → ℕ
 lanes_size edition s = 12 + lane_size edition s Lane.Lead + lane_size edition s Lane.Keys + lane_size edition s Lane.Hits + lane_size edition s Lane.Bass
 
 -- what the sheet of a seed has to write in an edition, with what composing gave: the sheet, or why there is no song
-abbrev pub sheet_by : Edition → ℕ → Composed → Asked
-sheet_by edition seed song = asked_by song.outcome (Writes (sheet_bytes edition seed song.score song.scale (arrange_of seed)))
+abbrev pub sheet_by : Edition → ℕ → Result Composed Refusal → Asked
+sheet_by edition seed song = asked_by song (λ s. Writes (sheet_bytes edition seed s.score s.scale (arrange_of seed)))
 
 -- what the sheet of a style and a seed has to write in an edition
 unfoldable pub sheet_in : Edition → ℕ → ℕ → Asked

@@ -1,13 +1,13 @@
 -- Which scores can be written: counts within the capacities, every number finite; and for a page, lanes in the order
 -- of their bars. What composing gave can. Definitions only.
-use Rattle.std.specs.Prelude.{◌≡◌, List, ℕ, ◌≤◌, ◌<◌, T, length, get_or}
+use Rattle.std.specs.Prelude.{◌≡◌, List, ℕ, ◌≤◌, ◌<◌, T, length, get_or, Result, IfOk}
 use Rattle.std.specs.Float.Ieee.Scale.{finite}
 use Rattle.composer.specs.Note.{past_note, past_hit}
 use Rattle.composer.specs.Promise.{LanesPromise, ScorePromise}
 use Rattle.composer.specs.declared.compose.Composed.{Composed}
+use Rattle.composer.specs.declared.refusal.Refusal.{Refusal}
 use Rattle.composer.specs.declared.note.Hit.{Hit}
 use Rattle.composer.specs.declared.note.Note.{Note}
-use Rattle.composer.specs.declared.refusal.Outcome.{Outcome}
 use Rattle.composer.specs.declared.score.Score.{Score}
 
 -- an array of `cap` entries, of which n are in use
@@ -49,5 +49,5 @@ pub record Paged (s : Score) : Type 0 where
   pub writable : Writable s
 
 -- what composing gave: where it is a song, its score and its scale have what `ScorePromise` says
-abbrev pub Promised : Composed → Type 0
-Promised song = song.outcome ≡ Outcome.Done → ScorePromise song.score.style song.score song.scale
+abbrev pub Promised : Result Composed Refusal → Type 0
+Promised song = IfOk song (λ s. ScorePromise s.score.style s.score s.scale)

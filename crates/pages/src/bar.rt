@@ -3,15 +3,14 @@ ghost use Rattle.std.specs.Prelude.{◌≡◌};
 ghost use Rattle.pages.specs.Bar.{plays_drums};
 
 use composer::form::Form;
-use composer::form::ask::{PlaysAnswer, plays};
+use composer::form::ask::plays;
 
 // Whether the song has a bar `bar` and it plays drums.
 pub(crate) fn plays_drums(f: Form, bar: u64) -> bool
     ensures { result ≡ plays_drums f bar }
 {
-    let a = plays(f, bar as usize);
-    match a {
-        PlaysAnswer::Found(p) => p.drums,
-        PlaysAnswer::Refused(_) => false,
+    match plays(&f, bar as usize) {
+        Ok(p) => p.drums,
+        Err(_) => false,
     }
 }

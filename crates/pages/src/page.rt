@@ -10,18 +10,17 @@ ghost use Rattle.pages.specs.Lane.{run_size, Held};
 ghost use Rattle.pages.specs.Page.{Chorded, chord_size, chord_field, runs_in, runs_size, page_size, page_bytes, page_of, page_asked};
 ghost use Rattle.pages.specs.Writable.{Paged};
 
-use crate::answer::Written;
 use crate::edition::{Edition, put_edition};
 use crate::hits::{HeardRuns, heard_runs, put_page_hits};
 use crate::lane::{Lane, Run, put_run, run_in};
 use crate::put::{put_bytes, put_head};
 use composer::compose::compose;
 use composer::form::Form;
-use composer::form::ask::{PlaysAnswer, plays};
+use composer::form::ask::plays;
 use composer::form::plays::Plays;
 use composer::form::song::arrange;
 use composer::harmony::bar_chords;
-use composer::refusal::{Outcome, Refusal};
+use composer::refusal::Refusal;
 use composer::score::Score;
 
 fn chord_size(on: bool) -> usize
@@ -123,7 +122,7 @@ fn put_page(buf: &mut [u8], s: Score, p: Plays, runs: Runs, hits: HeardRuns, bar
 
 // The page of a song bar, if the buffer is as long as this very page. The layers that play are known, but for the
 // hits: they are of two bars, and are looked up.
-fn page_into(s: Score, f: Form, p: Plays, bar: u64, buf: &mut [u8]) -> Written
+fn page_into(s: Score, f: Form, p: Plays, bar: u64, buf: &mut [u8]) -> Result<usize, Refusal>
     requires paged { Paged s }
     requires chorded { Chorded s }
     requires bar_lt_bars { bar < f.bars }
@@ -135,25 +134,22 @@ fn page_into(s: Score, f: Form, p: Plays, bar: u64, buf: &mut [u8]) -> Written
     let runs = runs_in(s, p, looped);
     let size = page_size(p.pad, runs, hits.count);
     if buf.len() < size {
-        return Written::Refused(Refusal::ShortBuffer);
+        return Err(Refusal::ShortBuffer);
     }
-    let n = put_page(buf, s, p, runs, hits, looped);
-    Written::Bytes(n)
+    Ok(put_page(buf, s, p, runs, hits, looped))
 }
 
 // The page of a song bar; a look-up of its plays that is refused is passed on.
-fn page_of(s: Score, f: Form, bar: u64, buf: &mut [u8]) -> Written
+fn page_of(s: Score, f: Form, bar: u64, buf: &mut [u8]) -> Result<usize, Refusal>
     requires paged { Paged s }
     requires chorded { Chorded s }
     ensures value { result ≡ written_of (length buf.old) (page_of s f bar) }
     ensures buf_after { buf.new ≡ buffer_of buf.old (page_of s f bar) }
 {
-    let a = plays(f, bar as usize);
-    let PlaysAnswer::Found(p) = a else {
-        let PlaysAnswer::Refused(r) = a else {
-            return Written::Refused(Refusal::Malformed);
-        };
-        return Written::Refused(r);
+    // document 01 asks for the answer to be taken apart so, where a `?` would do the same
+    let a = plays(&f, bar as usize);
+    let Ok(p) = a else {
+        return a.and(Ok(0));
     };
     page_into(s, f, p, bar, buf)
 }
@@ -162,18 +158,10 @@ fn page_of(s: Score, f: Form, bar: u64, buf: &mut [u8]) -> Written
 // length; what lies beyond stays. A hit before its bar line stands on the page of the bar before. Any other
 // style is refused with 1, then a bar that the song does not have with 3, then a buffer that is shorter than
 // this page with 2; a refusal writes nothing.
-pub fn bar_page(style: u8, seed: u64, bar: u64, buf: &mut [u8]) -> Written
+pub fn bar_page(style: u8, seed: u64, bar: u64, buf: &mut [u8]) -> Result<usize, Refusal>
     ensures value { result ≡ written_of (length buf.old) (page_asked style seed bar) }
     ensures buf_after { buf.new ≡ buffer_of buf.old (page_asked style seed bar) }
 {
-    let song = compose(style, seed);
-    let outcome = song.outcome;
-    match outcome {
-        Outcome::Refused(r) => Written::Refused(r),
-        Outcome::Done => {
-            let score = song.score;
-            let form = arrange(seed);
-            page_of(score, form, bar, buf)
-        }
-    }
+    let song = compose(style, seed)?;
+    page_of(song.score, arrange(seed), bar, buf)
 }

@@ -2,7 +2,6 @@
 ghost use Rattle.std.specs.Prelude.{◌++◌, ◌≡◌, ◌≤◌, length, drop};
 ghost use Rattle.pages.specs.Reply.{refusal_field, length_after, buffer_after};
 
-use crate::answer::Written;
 use crate::put::{put_head, put_u8};
 use composer::refusal::Refusal;
 
@@ -18,13 +17,13 @@ pub fn put_refusal(out: &mut [u8], r: Refusal) -> usize
 }
 
 // After a call has answered w and written to `out`: a refusal's field is written now. Answers how long the reply is.
-pub fn reply(w: Written, out: &mut [u8]) -> usize
+pub fn reply(w: Result<usize, Refusal>, out: &mut [u8]) -> usize
     requires { 4 ≤ length out.old }
     ensures value { result ≡ length_after w }
     ensures out_after { out.new ≡ buffer_after w out.old }
 {
     match w {
-        Written::Bytes(n) => n,
-        Written::Refused(r) => put_refusal(out, r),
+        Ok(n) => n,
+        Err(r) => put_refusal(out, r),
     }
 }

@@ -8,7 +8,6 @@ ghost use Rattle.pages.specs.Page.{Chorded};
 ghost use Rattle.pages.specs.Sheet.{name_field, tempo_field, chords_field, scale_field, song_bytes, lane_field, lanes_size, lanes_bytes, ends_field, plays_bytes, plays_field, form_bytes, sheet_size, sheet_bytes, sheet_by, sheet_in, sheet_asked};
 ghost use Rattle.pages.specs.Writable.{SizedLanes, FiniteEvents, Writable, Promised};
 
-use crate::answer::Written;
 use crate::edition::{Edition, put_edition};
 use crate::lane::{Lane, Run, put_run};
 use crate::put::{put_bytes, put_f32, put_head, put_u8, put_u64};
@@ -16,7 +15,7 @@ use composer::compose::{Composed, compose};
 use composer::form::Form;
 use composer::form::song::arrange;
 use composer::harmony::{Scale, bar_chords};
-use composer::refusal::{Outcome, Refusal};
+use composer::refusal::Refusal;
 use composer::score::Score;
 
 // 0x01: style, seed, lead voice.
@@ -241,7 +240,7 @@ pub fn sheet_into(
     scale: Scale,
     f: Form,
     buf: &mut [u8],
-) -> Written
+) -> Result<usize, Refusal>
     requires writable { Writable s }
     requires chorded { Chorded s }
     requires capacities { (scale.n ≤ 6) × (f.bars ≤ 64) }
@@ -250,32 +249,28 @@ pub fn sheet_into(
 {
     let size = sheet_size(edition, s, scale, f);
     if buf.len() < size {
-        return Written::Refused(Refusal::ShortBuffer);
+        return Err(Refusal::ShortBuffer);
     }
-    let n = put_sheet(buf, edition, seed, s, scale, f);
-    Written::Bytes(n)
+    Ok(put_sheet(buf, edition, seed, s, scale, f))
 }
 
 // The sheet of a seed in an edition, of what `compose` gave for it: who needs a song in both editions composes once.
-pub fn composed_into(edition: Edition, seed: u64, song: Composed, buf: &mut [u8]) -> Written
+pub fn composed_into(
+    edition: Edition,
+    seed: u64,
+    song: Result<Composed, Refusal>,
+    buf: &mut [u8],
+) -> Result<usize, Refusal>
     requires { Promised song }
     ensures value { result ≡ written_of (length buf.old) (sheet_by edition seed song) }
     ensures buf_after { buf.new ≡ buffer_of buf.old (sheet_by edition seed song) }
 {
-    let outcome = song.outcome;
-    match outcome {
-        Outcome::Refused(r) => Written::Refused(r),
-        Outcome::Done => {
-            let score = song.score;
-            let scale = song.scale;
-            let form = arrange(seed);
-            sheet_into(edition, seed, score, scale, form, buf)
-        }
-    }
+    let known = song?;
+    sheet_into(edition, seed, known.score, known.scale, arrange(seed), buf)
 }
 
 // The sheet of a seed's song in an edition, as `sheet` writes it in edition 2.
-pub fn sheet_in(edition: Edition, style: u8, seed: u64, buf: &mut [u8]) -> Written
+pub fn sheet_in(edition: Edition, style: u8, seed: u64, buf: &mut [u8]) -> Result<usize, Refusal>
     ensures value { result ≡ written_of (length buf.old) (sheet_in edition style seed) }
     ensures buf_after { buf.new ≡ buffer_of buf.old (sheet_in edition style seed) }
 {
@@ -286,7 +281,7 @@ pub fn sheet_in(edition: Edition, style: u8, seed: u64, buf: &mut [u8]) -> Writt
 // The sheet of a seed's song in style 0 or 1, in edition 2, from the buffer's first byte on, and its length; what lies
 // beyond stays. Any other style is refused with 1, then a buffer that is shorter than this sheet with 2; a refusal
 // writes nothing.
-pub fn sheet(style: u8, seed: u64, buf: &mut [u8]) -> Written
+pub fn sheet(style: u8, seed: u64, buf: &mut [u8]) -> Result<usize, Refusal>
     ensures value { result ≡ written_of (length buf.old) (sheet_asked style seed) }
     ensures buf_after { buf.new ≡ buffer_of buf.old (sheet_asked style seed) }
 {

@@ -1,5 +1,5 @@
 -- Forms in numbers. Definitions only.
-use Rattle.std.specs.Prelude.{Bool, cond, List, [], ◌∷◌, ℕ, zero, suc, ◌+◌, ◌-◌, ◌*◌, ◌^◌, eqb, leb, ℤ, pos, neg_ℤ, get_or}
+use Rattle.std.specs.Prelude.{Bool, cond, List, [], ◌∷◌, ℕ, zero, suc, ◌+◌, ◌-◌, ◌*◌, ◌^◌, eqb, leb, ℤ, pos, neg_ℤ, get_or, Result, Ok, Err}
 use Rattle.streams.specs.Stage.{stream_of}
 use Rattle.streams.specs.declared.stage.Stage.{Stage}
 use Rattle.composer.specs.Refusal.{number_of}
@@ -11,13 +11,13 @@ use Rattle.composer.specs.Form.Plays.{bits_of, silent}
 use Rattle.composer.specs.Form.Song.{arrange_of}
 use Rattle.composer.specs.declared.refusal.Outcome.{Outcome}
 use Rattle.composer.specs.declared.form.Form.{Form}
-use Rattle.composer.specs.declared.form.ask.PlaysAnswer.{PlaysAnswer}
 use Rattle.composer.specs.declared.form.ends.Bars.{Bars}
 use Rattle.composer.specs.declared.form.ends.Edge.{Edge}
 use Rattle.composer.specs.declared.form.ends.End.{End}
 use Rattle.composer.specs.declared.form.ends.Outro.{Outro}
 use Rattle.composer.specs.declared.form.plays.Plays.{Plays}
 use Rattle.probe.specs.Draws.{flag_of}
+use Rattle.composer.specs.declared.refusal.Refusal.{Refusal}
 
 -- ---- words
 -- n bars from `from` on, four bits each, the first bar highest
@@ -48,9 +48,9 @@ unfoldable pub beatless_word_of : Form → ℕ → ℕ
 beatless_word_of f k = cond (eqb k 5) (outcome_number_of (beatless_of f).outcome) (form_word_of (beatless_of f).form k)
 
 -- the bar's layers, or minus the number of the refusal
-abbrev pub plays_number_of : PlaysAnswer → ℤ
-plays_number_of (PlaysAnswer.Found p) = pos (bits_of p)
-plays_number_of (PlaysAnswer.Refused r) = neg_ℤ (pos (number_of r))
+abbrev pub plays_number_of : Result Plays Refusal → ℤ
+plays_number_of (Ok p) = pos (bits_of p)
+plays_number_of (Err r) = neg_ℤ (pos (number_of r))
 
 abbrev pub counter_of : ℕ → ℕ
 counter_of seed = (decide_of (stream_of Stage.Form seed)).stream.counter

@@ -5,7 +5,6 @@ use Rattle.std.specs.Float.Ieee.{to_bits, of_bits}
 use Rattle.laws.specs.Lists.{list_to}
 use Rattle.composer.specs.Compose.{compose_of}
 use Rattle.composer.specs.Note.{zero32}
-use Rattle.composer.specs.declared.kicks.KicksAnswer.{KicksAnswer}
 use Rattle.composer.specs.declared.note.DrumKind.{DrumKind}
 use Rattle.composer.specs.declared.note.Hit.{Hit}
 use Rattle.composer.specs.declared.score.Score.{Score}

@@ -4,13 +4,13 @@ use mathlib.Core.Bool.{true}
 use mathlib.Core.List.{List}
 use Prim.Native.Nat.{ℕ}
 use native.Mathlib.Omega.{arith}
-use Rattle.composer.specs.Refusal.{Answer, Gives, Refuses, answer_by}
+use Rattle.composer.specs.Refusal.{Answer, Gives, Refuses, answered}
 use Rattle.composer.specs.declared.refusal.Outcome.{Outcome}
 use Rattle.pages.specs.Answer.{Writes, bytes_of}
 use Rattle.pages.proofs.AnswerLaws.{refused, call_answers, room_answers, asked_refused}
 use Rattle.reader.specs.Composed.{composed_song}
 use Rattle.reader.specs.Promise.{Octets, Reads, Makes, ReaderPromise, ReadAnswers, WriteAnswers, RereadAnswers}
-use Rattle.reader.specs.Read.{read_of, read_answered, write_asked, reread_asked}
+use Rattle.reader.specs.Read.{read_of, write_asked, reread_asked}
 use Rattle.reader.specs.Song.{sheet_of}
 use Rattle.reader.specs.Value.{valid, Typed}
 use Rattle.reader.specs.Within.{within}
@@ -44,7 +44,7 @@ sheet_passes v t ok =
 
 pub sheet_back : (v : Song) → Typed v → valid v ≡ true → Reads (sheet_of v) v
 sheet_back v t ok =
-    ap read_answered (passes_read (sheet_of v) (sheet_passes v t ok))
+    ap answered (passes_read (sheet_of v) (sheet_passes v t ok))
     ∙ ap (λ (x : Song). Gives x) (song_read v (tested_value v t.shape ok))
 
 back : (v : Song) (bytes : List ℕ) → Makes v bytes → Reads bytes v

@@ -1,7 +1,7 @@
 -- What reading and writing promise each other, and what each call answers in numbers. Definitions only.
 use Rattle.std.specs.Prelude.{◌≡◌, true, false, ◌&&◌, List, [], ◌∷◌, ◌++◌, ℕ, ◌^◌, ◌≤◌, ◌<◌, length, get_or, take, drop}
 use Rattle.composer.specs.Note.{past_note}
-use Rattle.composer.specs.Refusal.{Gives, Refuses}
+use Rattle.composer.specs.Refusal.{Gives, Refuses, answered}
 use Rattle.composer.specs.Style.{style_number_of}
 use Rattle.composer.specs.declared.style.Style.{Style}
 use Rattle.pages.specs.Answer.{Writes, CallAnswers}
@@ -12,7 +12,7 @@ use Rattle.reader.specs.Codes.{coded}
 use Rattle.reader.specs.Composed.{composed_song}
 use Rattle.reader.specs.Fields.{TenFields}
 use Rattle.reader.specs.Layout.{formed}
-use Rattle.reader.specs.Read.{read_of, read_answered, write_asked, reread_asked}
+use Rattle.reader.specs.Read.{read_of, write_asked, reread_asked}
 use Rattle.reader.specs.Song.{song_in, sheet_of}
 use Rattle.reader.specs.Value.{valid, Typed, RoleIn, Value}
 use Rattle.reader.specs.Within.{within}
@@ -24,7 +24,7 @@ Octets bytes = (i : ℕ) → byte_at bytes i < 256
 
 -- the reader takes the bytes and gives v
 abbrev pub Reads : List ℕ → Song → Type 0
-Reads bytes v = read_answered (read_of bytes) ≡ Gives v
+Reads bytes v = answered (read_of bytes) ≡ Gives v
 
 -- the canonical writer takes v, a value of the code's types, and makes these bytes of it
 pub record Makes (v : Song) (bytes : List ℕ) : Type 0 where
@@ -59,14 +59,14 @@ pub record ReaderPromise : Type 0 where
 
 -- ---- which number: 7 for the fields, whatever their values, and only then 8
 pub record ReadAnswers (bytes : List ℕ) : Type 0 where
-  pub fields : formed bytes ≡ false → read_answered (read_of bytes) ≡ Refuses 7
-  pub values : formed bytes ≡ true → (coded bytes && within (song_in bytes)) ≡ false → read_answered (read_of bytes) ≡ Refuses 8
+  pub fields : formed bytes ≡ false → answered (read_of bytes) ≡ Refuses 7
+  pub values : formed bytes ≡ true → (coded bytes && within (song_in bytes)) ≡ false → answered (read_of bytes) ≡ Refuses 8
   pub given : formed bytes ≡ true → (coded bytes && within (song_in bytes)) ≡ true → Reads bytes (song_in bytes)
 
 -- the same without the reader's own tests: by the fields, and by the values that the writer takes
 pub record ReadTells (bytes : List ℕ) : Type 0 where
-  pub fields : (TenFields bytes → ⊥) → read_answered (read_of bytes) ≡ Refuses 7
-  pub values : TenFields bytes → (Made bytes → ⊥) → read_answered (read_of bytes) ≡ Refuses 8
+  pub fields : (TenFields bytes → ⊥) → answered (read_of bytes) ≡ Refuses 7
+  pub values : TenFields bytes → (Made bytes → ⊥) → answered (read_of bytes) ≡ Refuses 8
   pub given : (m : Made bytes) → Reads bytes m.v
 
 -- ---- the editions
@@ -81,7 +81,7 @@ pub record EditionTells (bytes : List ℕ) : Type 0 where
   pub one_begins : (v : Song) → Reads bytes v → v.edition ≡ Edition.One → byte_at bytes 0 ≡ 1
   pub two_begins : (v : Song) → Reads bytes v → v.edition ≡ Edition.Two → take 4 bytes ≡ 0 ∷ 0 ∷ 1 ∷ 2 ∷ []
   -- a 0x00 with another length or body is 7
-  pub other : byte_at bytes 0 ≡ 0 → (take 4 bytes ≡ 0 ∷ 0 ∷ 1 ∷ 2 ∷ [] → ⊥) → read_answered (read_of bytes) ≡ Refuses 7
+  pub other : byte_at bytes 0 ≡ 0 → (take 4 bytes ≡ 0 ∷ 0 ∷ 1 ∷ 2 ∷ [] → ⊥) → answered (read_of bytes) ≡ Refuses 7
   -- and its roles are the edition's
   pub roles : (v : Song) → Reads bytes v → RolesIn v
 
@@ -104,7 +104,7 @@ pub record WriteAnswers (v : Song) (b : List ℕ) : Type 0 where
 
 -- ---- read and written again: 7, then 8, then 2; else the sheet's own bytes
 pub record RereadAnswers (bytes b : List ℕ) : Type 0 where
-  pub fields : read_answered (read_of bytes) ≡ Refuses 7 → CallAnswers (reread_asked bytes) b (Refuses 7) b
-  pub values : read_answered (read_of bytes) ≡ Refuses 8 → CallAnswers (reread_asked bytes) b (Refuses 8) b
+  pub fields : answered (read_of bytes) ≡ Refuses 7 → CallAnswers (reread_asked bytes) b (Refuses 7) b
+  pub values : answered (read_of bytes) ≡ Refuses 8 → CallAnswers (reread_asked bytes) b (Refuses 8) b
   pub short : (v : Song) → Reads bytes v → length b < length bytes → CallAnswers (reread_asked bytes) b (Refuses 2) b
   pub written : (v : Song) → Reads bytes v → length bytes ≤ length b → CallAnswers (reread_asked bytes) b (Gives (length bytes)) (bytes ++ drop (length bytes) b)

@@ -2,7 +2,7 @@
 use Rattle.std.specs.Prelude.{◌&&◌, cond, false, List, ℕ, replicate}
 use Rattle.composer.specs.Compose.{no_score}
 use Rattle.composer.specs.Form.Plays.{silent}
-use Rattle.composer.specs.Refusal.{Answer, answer_by}
+use Rattle.composer.specs.Refusal.{Answer, answered}
 use Rattle.composer.specs.declared.form.ends.End.{End}
 use Rattle.composer.specs.declared.form.ends.Outro.{Outro}
 use Rattle.composer.specs.declared.refusal.Outcome.{Outcome}
@@ -40,8 +40,8 @@ read_of bytes =
     (read_refused Refusal.SheetFields)
 
 -- the answer: the song, or the number alone
-abbrev pub read_answered : Read → Answer Song
-read_answered r = answer_by r.outcome r.song
+abbrev pub answered : Read → Answer Song
+answered r = answer_by r.outcome r.song
 
 -- what the canonical writer has to write: 4 for a value that no sheet has; 2 for a short buffer comes after it, in
 -- `written_of`

@@ -6,13 +6,14 @@ use native.Mathlib.Omega.{arith}
 use lib.ListN.{length, take}
 use Rattle.pages.specs.Answer.{Asked, bytes_of, written_of, buffer_of, written_count}
 use Rattle.pages.specs.Sheet.{sheet_by}
-use Rattle.pages.specs.declared.answer.Written.{Written}
 use Rattle.pages.proofs.AnswerLaws.{count_most, count_bytes}
 use Rattle.editions.specs.Convert.{same_bytes}
 use Rattle.editions.proofs.convert.is_own.Goals as goal
+use Rattle.std.proofs.Common.{Result}
+use Rattle.composer.specs.declared.refusal.Refusal.{Refusal}
 
 -- what was written, by its count
-module _ (a : Asked) (b : List ℕ) {w : Written} {n : ℕ} (room : length (bytes_of a) ≤ length b) (told : w ≡ written_of (length b) a) (count : n ≡ written_count w) where
+module _ (a : Asked) (b : List ℕ) {w : Result ℕ Refusal} {n : ℕ} (room : length (bytes_of a) ≤ length b) (told : w ≡ written_of (length b) a) (count : n ≡ written_count w) where
   few : n ≤ length b
   few = rw (count, told) (omega (arith, count_most (length b) a))
 

@@ -8,5 +8,5 @@ returns-then-buf-bytes c = let all = refused c.args.buf.now c.args.bytes.now (om
     record { value = all.0; buf_after = all.1 }
 
 pub returns : goal.returns
-returns c = let all = served c.put_bytes-n.ensures in
+returns c = let all = served c.put_bytes.ensures in
     record { value = all.0; buf_after = all.1 }

@@ -27,8 +27,8 @@ returns-then-buf-size c =
     (omega (arith, ltb-true, size, page_length c.args.s c.requires.chorded c.args.p (loop_bar_of c.args.f c.args.bar) hits (omega arith))) in
     record { value = all.0; buf_after = all.1 }
 
-pub put_page-n-requires : goal.put_page-n-requires
-put_page-n-requires c =
+pub put_page-requires : goal.put_page-requires
+put_page-requires c =
     let size = size_is c.args.s c.requires.paged.lanes c.args.p c.args.f c.args.bar c.loop_bar-looped.ensures.value c.runs_in-runs.ensures c.heard_runs-hits.ensures.value c.page_size-size.ensures in
     let within : HitsWithin c.args.s c.heard_runs-hits.result = rw c.heard_runs-hits.ensures.value (hits_within_lem c.args.s c.requires.paged.lanes c.args.f c.args.bar) in
     record { paged = c.requires.paged; chorded = c.requires.chorded; bar_bound = c.loop_bar-looped.ensures.upper_bound; runs_value = c.runs_in-runs.ensures; hits_within = within; count_bound = c.heard_runs-hits.ensures.count_bound; room = rw (c.loop_bar-looped.ensures.value, c.heard_runs-hits.ensures.value) (omega (arith, ltb-false, size)) }
@@ -37,5 +37,5 @@ pub returns : goal.returns
 returns c =
     let bytes : page_bytes c.args.s c.args.p c.loop_bar-looped.result (run_hits c.args.s c.heard_runs-hits.result) ≡ page_bytes c.args.s c.args.p (loop_bar_of c.args.f c.args.bar) (page_hits c.args.s c.args.f c.args.bar) =
     rw (c.loop_bar-looped.ensures.value, c.heard_runs-hits.ensures.value, runs_hits c.args.s c.requires.paged.lanes c.args.f c.args.bar) in
-    let all = served (wrote_as refl bytes c.put_page-n.ensures) in
+    let all = served (wrote_as refl bytes c.put_page.ensures) in
     record { value = all.0; buf_after = all.1 }

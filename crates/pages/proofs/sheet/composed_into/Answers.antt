@@ -1,4 +1,7 @@
 -- A song that is not refused has what its sheet asks for, by the promises of compose and arrange. Assumes nothing.
+use Rattle.std.proofs.lemmas.Result.{IfOk-at_ok}
+use Rattle.composer.specs.Promise.{ScorePromise}
+use Rattle.composer.specs.declared.compose.Composed.{Composed}
 use Rattle.composer.proofs.ComposeLaws.{events_promise}
 use Rattle.composer.proofs.form.Arranged.{arranged_promise}
 use Rattle.pages.proofs.WritableLaws.{writable}
@@ -6,14 +9,6 @@ use Rattle.pages.proofs.sheet.composed_into.Goals as goal
 
 pub sheet_into-requires : goal.sheet_into-requires
 sheet_into-requires c =
-    let promise = c.requires c.in-Done.is in
-    rw c.arrange-form.ensures (record { writable = writable c.args.song.score (events_promise promise); chorded = promise.range.chord_size; capacities = (promise.scale_most, (arranged_promise c.args.seed).most) })
-
-pub returns-in-Refused : goal.returns-in-Refused
-returns-in-Refused c =
-    let e = c.in-Refused.is in
-    record { value = rw e; buf_after = rw e }
-
-pub returns-in-Done : goal.returns-in-Done
-returns-in-Done c =
-    rw (c.in-Done.is, ← c.arrange-form.ensures) c.sheet_into.ensures
+    let song = c.in_ok-known.known in
+    let promise = IfOk-at_ok (λ (x : Composed). ScorePromise x.score.style x.score x.scale) c.in_ok-known.was c.requires in
+    rw c.arrange.ensures (record { writable = writable song.score (events_promise promise); chorded = promise.range.chord_size; capacities = (promise.scale_most, (arranged_promise c.args.seed).most) })

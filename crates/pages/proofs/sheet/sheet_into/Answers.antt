@@ -24,5 +24,5 @@ returns-then-buf-size c =
     record { value = all.0; buf_after = all.1 }
 
 pub returns : goal.returns
-returns c = let all = served c.put_sheet-n.ensures in
+returns c = let all = served c.put_sheet.ensures in
     record { value = all.0; buf_after = all.1 }

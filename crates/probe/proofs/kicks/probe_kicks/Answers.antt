@@ -4,7 +4,6 @@ use lib.ListN.{length}
 use Rattle.laws.specs.Lists.{list_to}
 use Rattle.composer.specs.Kicks.{kicks_of}
 use Rattle.composer.specs.declared.compose.Composed.{Composed}
-use Rattle.composer.specs.declared.kicks.KicksAnswer.{KicksAnswer}
 use Rattle.probe.specs.Kicks.{kicks_word_of}
 use Rattle.probe.proofs.kicks.probe_kicks.Goals as goal
 

@@ -3,7 +3,6 @@ use mathlib.Core.Path.{ap, ◌∙◌}
 use lib.ListN.{length}
 use Rattle.laws.specs.Lists.{list_to}
 use Rattle.composer.specs.Kicks.{kicks_of}
-use Rattle.composer.specs.declared.kicks.KicksAnswer.{KicksAnswer}
 use Rattle.probe.specs.Kicks.{kicks_word_of}
 use Rattle.probe.proofs.kicks.probe_made_kicks.Goals as goal
 
