@@ -7,6 +7,7 @@ pub mod HarmonyLaws
 pub mod KicksLaws
 pub mod PlainLaws
 pub mod RangeLaws
+pub mod RefusalLaws
 pub mod SpreadLaws
 pub mod TempoLaws
 pub mod TraitsLaws

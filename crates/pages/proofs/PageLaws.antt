@@ -30,6 +30,7 @@ use Rattle.composer.specs.declared.refusal.Refusal.{Refusal}
 use Rattle.composer.specs.declared.score.Score.{Score}
 use Rattle.composer.specs.declared.style.Style.{Style}
 use Rattle.composer.proofs.ComposeLaws.{composed_is, song_promise}
+use Rattle.composer.proofs.RefusalLaws.{gives_ok}
 use Rattle.composer.proofs.form.AskLaws.{plays_past}
 use Rattle.composer.proofs.form.SongLaws.{arranged_sound}
 use Rattle.pages.specs.Answer.{Writes, Declines, bytes_of}
@@ -154,10 +155,6 @@ page_most_lem (suc zero) seed b = song_most Style.Sleep seed b
 page_most_lem (suc (suc n)) seed b = omega arith
 
 -- ---- which bars have a page
-found_is : (a : Result Plays Refusal) (p : Plays) → answered a ≡ Gives p → a ≡ Ok p
-found_is (Ok q) p e = cc
-found_is (Err r) p e = cc
-
 -- a bar that is found is one of the form's
 pub found_below : (f : Form) (b : ℕ) (p : Plays) → plays_of f b ≡ Ok p → b < f.bars
 unfolding plays_of
@@ -174,7 +171,7 @@ module _ (style : Style) (seed b : ℕ) where
   pub page_found : (p : Plays) → plays_at (arrange_of seed) b ≡ Gives p
       → page_asked (style_number_of style) seed b ≡ Writes (page_bytes (composed_of style seed).score p (loop_bar_of (arrange_of seed) b) (page_hits (composed_of style seed).score (arrange_of seed) b))
   unfolding page_asked
-  page_found p plays = rw (composed_is style seed, found_is (plays_of (arrange_of seed) b) p plays)
+  page_found p plays = rw (composed_is style seed, gives_ok (plays_of (arrange_of seed) b) p plays)
 
   -- any other is refused with 3
   pub page_past : (arrange_of seed).bars ≤ b → page_asked (style_number_of style) seed b ≡ Declines Refusal.NoSuchBar

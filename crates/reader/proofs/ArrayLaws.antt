@@ -12,6 +12,7 @@ use lib.ListN.{length, get_or, take, replicate}
 use lib.Seq.{take_at, get_or-take}
 use Rattle.laws.specs.Lists.{list_to, pad}
 use Rattle.laws.proofs.Lists.{length_list_to, list_to_at, length_pad}
+use Rattle.laws.proofs.Written.{rest_is}
 use Rattle.composer.specs.Chord.{past_chord}
 use Rattle.composer.specs.Form.Plays.{bits_of, silent}
 use Rattle.composer.specs.Note.{no_note, past_note, no_hit, past_hit}

@@ -1,21 +1,21 @@
 -- What the reader takes, and what the writer is asked. Assumes nothing.
-use mathlib.Core.Path.{◌≡◌, refl, ap, ◌∙◌}
+use mathlib.Core.Path.{◌≡◌, refl, sym, ap, ◌∙◌}
 use mathlib.Core.Bool.{Bool, true, false, ◌&&◌, cond}
 use mathlib.Core.List.{List}
 use Prim.Native.Nat.{ℕ}
 use native.Mathlib.Omega.{arith}
+use Rattle.std.proofs.Common.{Ok, Err}
 use Rattle.laws.proofs.Bools.{both}
-use Rattle.composer.specs.declared.refusal.Outcome.{Outcome}
 use Rattle.composer.specs.declared.refusal.Refusal.{Refusal}
 use Rattle.pages.specs.Answer.{Writes, Declines}
 use Rattle.reader.specs.Cleared.{cleared}
 use Rattle.reader.specs.Codes.{coded}
 use Rattle.reader.specs.Layout.{formed}
-use Rattle.reader.specs.Read.{read_refused, read_of, write_asked}
+use Rattle.reader.specs.Inner.Tested.{tested_of}
+use Rattle.reader.specs.Read.{read_by, read_of, write_asked}
 use Rattle.reader.specs.Song.{song_in, sheet_of}
 use Rattle.reader.specs.Value.{valid}
 use Rattle.reader.specs.Within.{within}
-use Rattle.reader.specs.declared.song.Read.{Read}
 use Rattle.reader.specs.declared.song.Song.{Song}
 use Rattle.reader.proofs.ArrayLaws.{cleared_read}
 
@@ -48,46 +48,46 @@ pub record Passes (bytes : List ℕ) : Type 0 where
   pub coded : coded bytes ≡ true
   pub within : within (song_in bytes) ≡ true
 
--- what is read, by its two tests
-abbrev read_by : Bool → Bool → Song → Read
-read_by a b v = cond a (cond b (record { outcome = Outcome.Done; song = v }) (read_refused Refusal.SheetValues)) (read_refused Refusal.SheetFields)
+-- what is given passed both tests
+by_tests : {A : Type 0} (a b : Bool) (x y : A) → read_by a b x ≡ Ok y → (a ≡ true) × (b ≡ true) × (x ≡ y)
+by_tests true true x y e = (refl, refl, cc)
+by_tests true false x y e = let z : ◌≡◌ {A = ℕ} 0 1 = cc in absurd (omega arith)
+by_tests false b x y e = let z : ◌≡◌ {A = ℕ} 0 1 = cc in absurd (omega arith)
 
-by_tests : (a b : Bool) (v : Song) → (read_by a b v).outcome ≡ Outcome.Done → (a ≡ true) × (b ≡ true)
-by_tests true true v e = (refl, refl)
-by_tests true false v e = let z : ◌≡◌ {A = ℕ} 0 1 = cc in absurd (omega arith)
-by_tests false b v e = let z : ◌≡◌ {A = ℕ} 0 1 = cc in absurd (omega arith)
+-- a refusal is the tests' own, whatever else would be given
+refused_by : {A B : Type 0} (a b : Bool) (x : A) (y : B) (r : Refusal) → read_by a b x ≡ Err r → read_by a b y ≡ Err r
+refused_by true true x y r e = let z : ◌≡◌ {A = ℕ} 0 1 = cc in absurd (omega arith)
+refused_by true false x y r e = let z : Refusal.SheetValues ≡ r = cc in ap (λ (q : Refusal). Err q) z
+refused_by false b x y r e = let z : Refusal.SheetFields ≡ r = cc in ap (λ (q : Refusal). Err q) z
 
-abbrev refusal_in : Outcome → Refusal
-refusal_in Outcome.Done = Refusal.SheetFields
-refusal_in (Outcome.Refused r) = r
+passed : (bytes : List ℕ) → formed bytes ≡ true → (coded bytes && within (song_in bytes)) ≡ true → Passes bytes
+passed bytes f e = let b = both (coded bytes) (within (song_in bytes)) e in record { formed = f; coded = b.0; within = b.1 }
 
-refused_by : (a b : Bool) (v : Song) (r : Refusal) → (read_by a b v).outcome ≡ Outcome.Refused r → read_by a b v ≡ read_refused r
-refused_by true true v r e = let z : ◌≡◌ {A = ℕ} 0 1 = cc in absurd (omega arith)
-refused_by true false v r e = ap (λ (o : Outcome). read_refused (refusal_in o)) e
-refused_by false b v r e = ap (λ (o : Outcome). read_refused (refusal_in o)) e
+pub tested_passes : (bytes : List ℕ) → tested_of bytes ≡ Ok tt → Passes bytes
+unfolding tested_of
+tested_passes bytes e =
+    let a = by_tests (formed bytes) (coded bytes && within (song_in bytes)) tt tt e in
+    passed bytes a.0 a.1
 
--- beside a refusal all is zero
-pub read_refused_lem : (bytes : List ℕ) (r : Refusal) → (read_of bytes).outcome ≡ Outcome.Refused r → read_of bytes ≡ read_refused r
+pub tested_refused : (bytes : List ℕ) (r : Refusal) → tested_of bytes ≡ Err r → read_of bytes ≡ Err r
+unfolding tested_of read_of
+tested_refused bytes r e = refused_by (formed bytes) (coded bytes && within (song_in bytes)) tt (song_in bytes) r e
+
+pub passes : (bytes : List ℕ) (v : Song) → read_of bytes ≡ Ok v → Passes bytes
 unfolding read_of
-read_refused_lem bytes r e = refused_by (formed bytes) (coded bytes && within (song_in bytes)) (song_in bytes) r e
+passes bytes v e =
+    let a = by_tests (formed bytes) (coded bytes && within (song_in bytes)) (song_in bytes) v e in
+    passed bytes a.0 a.1
 
-pub passes : (bytes : List ℕ) → (read_of bytes).outcome ≡ Outcome.Done → Passes bytes
-unfolding read_of
-passes bytes done =
-    let a = by_tests (formed bytes) (coded bytes && within (song_in bytes)) (song_in bytes) done in
-    let b = both (coded bytes) (within (song_in bytes)) a.1 in
-    record { formed = a.0; coded = b.0; within = b.1 }
-
-pub passes_read : (bytes : List ℕ) → Passes bytes → read_of bytes ≡ record { outcome = Outcome.Done; song = song_in bytes }
+pub passes_read : (bytes : List ℕ) → Passes bytes → read_of bytes ≡ Ok (song_in bytes)
 unfolding read_of
 passes_read bytes t = rw (t.formed, t.coded, t.within)
 
-pub read_song : (bytes : List ℕ) → (read_of bytes).outcome ≡ Outcome.Done → (read_of bytes).song ≡ song_in bytes
-read_song bytes done = ap (λ (r : Read). r.song) (passes_read bytes (passes bytes done))
+pub read_song : (bytes : List ℕ) (v : Song) → read_of bytes ≡ Ok v → v ≡ song_in bytes
+read_song bytes v e = let z = sym e ∙ passes_read bytes (passes bytes v e) in cc
 
-read_within : (bytes : List ℕ) → (read_of bytes).outcome ≡ Outcome.Done → within (read_of bytes).song ≡ true
-read_within bytes done = ap within (read_song bytes done) ∙ (passes bytes done).within
-
-pub read_valid : (bytes : List ℕ) → (read_of bytes).outcome ≡ Outcome.Done → valid (read_of bytes).song ≡ true
+pub read_valid : (bytes : List ℕ) (v : Song) → read_of bytes ≡ Ok v → valid v ≡ true
 unfolding valid
-read_valid bytes done = rw (read_within bytes done) (ap cleared (read_song bytes done) ∙ cleared_read bytes)
+read_valid bytes v e =
+    let s = read_song bytes v e in
+    rw (ap within s ∙ (passes bytes v e).within) (ap cleared s ∙ cleared_read bytes)

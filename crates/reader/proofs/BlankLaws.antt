@@ -12,6 +12,7 @@ use lib.ListN.{length, get_or, replicate, length-replicate, get_or-replicate}
 use Rattle.laws.specs.Lists.{list_to, pad}
 use Rattle.laws.proofs.Lists.{list_to_at, length_pad, pad_at_lem, get_d_any}
 use Rattle.laws.proofs.Sorts.{all_at}
+use Rattle.laws.proofs.Written.{rest_is}
 use Rattle.composer.specs.Chord.{past_chord, no_chord}
 use Rattle.composer.specs.Form.{parts_of}
 use Rattle.composer.specs.Form.Plays.{silent}

@@ -10,6 +10,7 @@ use lib.Seq.{take_at}
 use Rattle.laws.specs.Lanes.{Laid}
 use Rattle.laws.specs.Lists.{pad}
 use Rattle.laws.proofs.Lists.{length_pad, pad_at_lem, get_d_any, length_map_take, map_take_at}
+use Rattle.laws.proofs.Written.{rest_is}
 use Rattle.composer.specs.Compose.{composed_of}
 use Rattle.composer.specs.Form.Song.{arrange_of}
 use Rattle.composer.specs.Form.Promise.{FormPromise}

@@ -6,7 +6,8 @@ use mathlib.Core.List.{List}
 use Prim.Native.Nat.{ℕ, ◌≤◌}
 use native.Mathlib.Omega.{arith}
 use lib.ListN.{length}
-use Rattle.composer.specs.declared.refusal.Outcome.{Outcome}
+use Rattle.std.proofs.Common.{Result, Ok, Err}
+use Rattle.composer.specs.declared.refusal.Refusal.{Refusal}
 use Rattle.pages.specs.Answer.{Asked, bytes_of, asked_by}
 use Rattle.pages.specs.Edition.{sheet_most}
 use Rattle.pages.specs.Writable.{SizedLanes}
@@ -38,17 +39,17 @@ module _ (v : Song) (p : Value v) where
 pub value_most : (v : Song) → Typed v → valid v ≡ true → length (sheet_of v) ≤ sheet_most v.edition
 value_most v t ok = most v (tested_value v t.shape ok)
 
-read_most : (bytes : List ℕ) → (read_of bytes).outcome ≡ Outcome.Done → length (bytes_of (write_asked (read_of bytes).song)) ≤ sheet_most Edition.Two
-read_most bytes done =
-    let ok = read_valid bytes done in
-    let e = read_song bytes done in
-    let p = tested_value (song_in bytes) (shaped_read bytes (passes bytes done).formed) (rw e at ok) in
-    rw (asked_valid (read_of bytes).song ok, e) (omega (arith, most (song_in bytes) p, edition_most (song_in bytes).edition))
+read_most : (bytes : List ℕ) (v : Song) → read_of bytes ≡ Ok v → length (bytes_of (write_asked v)) ≤ sheet_most Edition.Two
+read_most bytes v e =
+    let ok = read_valid bytes v e in
+    let s = read_song bytes v e in
+    let p = tested_value (song_in bytes) (shaped_read bytes (passes bytes v e).formed) (rw s at ok) in
+    rw (asked_valid v ok, s) (omega (arith, most (song_in bytes) p, edition_most (song_in bytes).edition))
 
-by_outcome : (o : Outcome) (a : Asked) → (o ≡ Outcome.Done → length (bytes_of a) ≤ sheet_most Edition.Two) → length (bytes_of (asked_by o a)) ≤ sheet_most Edition.Two
-by_outcome Outcome.Done a h = h refl
-by_outcome (Outcome.Refused r) a h = omega arith
+by_read : (o : Result Song Refusal) → ((v : Song) → o ≡ Ok v → length (bytes_of (write_asked v)) ≤ sheet_most Edition.Two) → length (bytes_of (asked_by o write_asked)) ≤ sheet_most Edition.Two
+by_read (Ok v) h = h v refl
+by_read (Err r) h = omega arith
 
 pub reread_most : (bytes : List ℕ) → length (bytes_of (reread_asked bytes)) ≤ sheet_most Edition.Two
 unfolding reread_asked
-reread_most bytes = by_outcome (read_of bytes).outcome (write_asked (read_of bytes).song) (read_most bytes)
+reread_most bytes = by_read (read_of bytes) (read_most bytes)

@@ -5,13 +5,14 @@ use mathlib.Core.List.{List}
 use Prim.Native.Nat.{ℕ}
 use native.Mathlib.Omega.{arith}
 use Rattle.composer.specs.Refusal.{Answer, Gives, Refuses, answered}
-use Rattle.composer.specs.declared.refusal.Outcome.{Outcome}
+use Rattle.std.proofs.Common.{Ok}
+use Rattle.composer.proofs.RefusalLaws.{gives_ok}
 use Rattle.pages.specs.Answer.{Writes, bytes_of}
 use Rattle.pages.proofs.AnswerLaws.{refused, call_answers, room_answers, asked_refused}
 use Rattle.reader.specs.Composed.{composed_song}
 use Rattle.reader.specs.Promise.{Octets, Reads, Makes, ReaderPromise, ReadAnswers, WriteAnswers, RereadAnswers}
 use Rattle.reader.specs.Read.{read_of, write_asked, reread_asked}
-use Rattle.reader.specs.Song.{sheet_of}
+use Rattle.reader.specs.Song.{song_in, sheet_of}
 use Rattle.reader.specs.Value.{valid, Typed}
 use Rattle.reader.specs.Within.{within}
 use Rattle.reader.specs.declared.song.Song.{Song}
@@ -25,16 +26,8 @@ use Rattle.reader.proofs.TestedLaws.{valid_told, tested_value}
 use Rattle.reader.proofs.ValueLaws.{value_stored}
 
 -- ---- an answer that gives
-abbrev given : Answer Song → Song → Song
-given (Gives x) v = x
-given (Refuses n) v = v
-
-answered : (o : Outcome) (x v : Song) → answer_by o x ≡ Gives v → (o ≡ Outcome.Done) × (x ≡ v)
-answered Outcome.Done x v e = (refl, ap (λ (a : Answer Song). given a x) e)
-answered (Outcome.Refused r) x v e = let z : ◌≡◌ {A = ℕ} 0 1 = cc in absurd (omega arith)
-
-pub reads_told : (bytes : List ℕ) (v : Song) → Reads bytes v → ((read_of bytes).outcome ≡ Outcome.Done) × ((read_of bytes).song ≡ v)
-reads_told bytes v e = answered (read_of bytes).outcome (read_of bytes).song v e
+pub reads_told : (bytes : List ℕ) (v : Song) → Reads bytes v → read_of bytes ≡ Ok v
+reads_told bytes v e = gives_ok (read_of bytes) v e
 
 -- ---- what is written and read
 sheet_passes : (v : Song) → Typed v → valid v ≡ true → Passes (sheet_of v)
@@ -54,18 +47,17 @@ back v bytes m =
     rw (← same) (sheet_back v m.typed ok)
 
 -- ---- what is read and written again
-read_bytes : (bytes : List ℕ) → Octets bytes → (read_of bytes).outcome ≡ Outcome.Done → sheet_of (read_of bytes).song ≡ bytes
-read_bytes bytes octets done =
-    let p = passes bytes done in
-    ap sheet_of (read_song bytes done) ∙ sheet_again bytes octets p.formed p.coded p.within
+passed_bytes : (bytes : List ℕ) → Octets bytes → Passes bytes → sheet_of (song_in bytes) ≡ bytes
+passed_bytes bytes octets p = sheet_again bytes octets p.formed p.coded p.within
 
 again : (v : Song) (bytes : List ℕ) → Octets bytes → Reads bytes v → Makes v bytes
 again v bytes octets e =
     let t = reads_told bytes v e in
-    let ok = ap valid (sym t.1) ∙ read_valid bytes t.0 in
+    let s = read_song bytes v t in
+    let p = passes bytes v t in
     record {
-      typed = rw (← t.1, read_song bytes t.0) (typed_read bytes (passes bytes t.0).formed octets);
-      asked = asked_valid v ok ∙ ap (λ (x : Song). Writes (sheet_of x)) (sym t.1) ∙ ap Writes (read_bytes bytes octets t.0);
+      typed = rw s (typed_read bytes p.formed octets);
+      asked = asked_valid v (read_valid bytes v t) ∙ ap (λ (x : Song). Writes (sheet_of x)) s ∙ ap Writes (passed_bytes bytes octets p);
     }
 
 pub reader_promise : ReaderPromise
@@ -96,18 +88,20 @@ write_answers v b = record {
 }
 
 -- ---- read and written again
-pub reread_done : (bytes : List ℕ) → Octets bytes → (read_of bytes).outcome ≡ Outcome.Done → reread_asked bytes ≡ Writes bytes
+pub reread_passed : (bytes : List ℕ) → Octets bytes → Passes bytes → reread_asked bytes ≡ Writes bytes
 unfolding reread_asked
-reread_done bytes octets done = rw done (asked_valid (read_of bytes).song (read_valid bytes done) ∙ ap Writes (read_bytes bytes octets done))
+reread_passed bytes octets p =
+    let e = passes_read bytes p in
+    rw e (asked_valid (song_in bytes) (read_valid bytes (song_in bytes) e) ∙ ap Writes (passed_bytes bytes octets p))
 
 reread_given : (v : Song) (bytes : List ℕ) → Octets bytes → Reads bytes v → reread_asked bytes ≡ Writes bytes
-reread_given v bytes octets e = reread_done bytes octets (reads_told bytes v e).0
+reread_given v bytes octets e = reread_passed bytes octets (passes bytes v (reads_told bytes v e))
 
 pub reread_answers : (bytes b : List ℕ) → Octets bytes → RereadAnswers bytes b
 unfolding reread_asked
 reread_answers bytes b octets = record {
-  fields = asked_refused (read_of bytes).outcome (read_of bytes).song (write_asked (read_of bytes).song) 7 b;
-  values = asked_refused (read_of bytes).outcome (read_of bytes).song (write_asked (read_of bytes).song) 8 b;
+  fields = asked_refused (read_of bytes) write_asked 7 b;
+  values = asked_refused (read_of bytes) write_asked 8 b;
   short = λ v e h. rw (reread_given v bytes octets e) (call_answers (Writes bytes) b (refused b bytes h));
   written = λ v e h. rw (reread_given v bytes octets e) (room_answers bytes b h);
 }

@@ -13,6 +13,7 @@ use lib.Seq.{ext_get_or, get_or-take, length-take-le}
 use Rattle.laws.specs.Lists.{pad}
 use Rattle.laws.proofs.Bools.{both}
 use Rattle.laws.proofs.Lists.{length_pad, pad_at_lem, get_d_any}
+use Rattle.laws.proofs.Written.{rest_is}
 use Rattle.reader.specs.Tests.{all_to}
 
 -- where the first of two is known

@@ -15,7 +15,6 @@ use composer::compose::style_by;
 use composer::form::Form;
 use composer::form::plays::{Plays, SILENT};
 use composer::harmony::Scale;
-use composer::refusal::Outcome;
 use composer::score::Score;
 use pages::edition::Edition;
 use pages::get::{byte_in, f32_at, u64_at};
@@ -28,13 +27,6 @@ pub struct Song {
     pub score: Score,
     pub scale: Scale,
     pub form: Form,
-}
-
-// How a reading went, and its song; where it is refused the song is zero throughout.
-#[derive(Clone, Copy)]
-pub struct Read {
-    pub outcome: Outcome,
-    pub song: Song,
 }
 
 // Four notes, of which the first is the root.

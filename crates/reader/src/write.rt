@@ -9,15 +9,15 @@ ghost use Rattle.reader.specs.Within.{within};
 
 use crate::cleared::is_cleared;
 use crate::layout::layout_of;
-use crate::read::outcome_of;
+use crate::read::tested;
 use crate::song::Song;
 use crate::within::is_within;
-use composer::refusal::{Outcome, Refusal};
-use pages::answer::{Written, bytes_into};
+use composer::refusal::Refusal;
+use pages::answer::bytes_into;
 use pages::sheet::sheet_into;
 
 // The sheet of a song whose numbers are in range, if the buffer is as long as this very sheet.
-fn song_into(v: Song, buf: &mut [u8]) -> Written
+fn song_into(v: Song, buf: &mut [u8]) -> Result<usize, Refusal>
     requires { within v ≡ true }
     ensures value { result ≡ written_of (length buf.old) (Writes (sheet_of v)) }
     ensures buf_after { buf.new ≡ buffer_of buf.old (Writes (sheet_of v)) }
@@ -33,7 +33,7 @@ fn song_into(v: Song, buf: &mut [u8]) -> Written
 // that no sheet names is refused with 4, then a buffer that is shorter than its sheet with 2; a refusal writes
 // nothing. Whatever the song, it has what the code's types say: what the theorem that a written song is read back asks
 // of a value.
-pub fn write(v: Song, buf: &mut [u8]) -> Written
+pub fn write(v: Song, buf: &mut [u8]) -> Result<usize, Refusal>
     ensures value { result ≡ written_of (length buf.old) (write_asked v) }
     ensures buf_after { buf.new ≡ buffer_of buf.old (write_asked v) }
     ensures typed { Typed v }
@@ -41,7 +41,7 @@ pub fn write(v: Song, buf: &mut [u8]) -> Written
     let within = is_within(v);
     let cleared = is_cleared(v);
     if !(within & cleared) {
-        return Written::Refused(Refusal::Malformed);
+        return Err(Refusal::Malformed);
     }
     song_into(v, buf)
 }
@@ -50,15 +50,12 @@ pub fn write(v: Song, buf: &mut [u8]) -> Written
 // tested where it stands, and copied. Refusals are the reader's, 7 and then 8, and then 2 for a buffer that is shorter
 // than the sheet; none of them writes anything. Whatever the sheet, each of its bytes is below 256, as the theorem on
 // what is answered asks.
-pub fn reread(sheet: &[u8], buf: &mut [u8]) -> Written
+pub fn reread(sheet: &[u8], buf: &mut [u8]) -> Result<usize, Refusal>
     ensures value { result ≡ written_of (length buf.old) (reread_asked sheet.now) }
     ensures buf_after { buf.new ≡ buffer_of buf.old (reread_asked sheet.now) }
     ensures octets { Octets sheet.now }
 {
     let l = layout_of(sheet);
-    let outcome = outcome_of(sheet, l);
-    match outcome {
-        Outcome::Refused(r) => Written::Refused(r),
-        Outcome::Done => bytes_into(sheet, buf),
-    }
+    tested(sheet, l)?;
+    bytes_into(sheet, buf)
 }

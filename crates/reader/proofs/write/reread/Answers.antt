@@ -1,23 +1,22 @@
 -- What is read and written again gives the same bytes, so a copy of them is the answer. Assumes nothing.
-use mathlib.Core.Path.{◌≡◌, sym, ◌∙◌}
+use mathlib.Core.Path.{sym}
 use native.Mathlib.Omega.{arith}
-use Rattle.composer.specs.declared.refusal.Outcome.{Outcome}
+use Rattle.std.proofs.lemmas.Result.{err_from_is_err_and}
 use Rattle.reader.specs.Promise.{Octets}
-use Rattle.reader.specs.Read.{read_of, reread_asked}
-use Rattle.reader.proofs.PromiseLaws.{reread_done}
+use Rattle.reader.specs.Read.{reread_asked}
+use Rattle.reader.proofs.AskedLaws.{tested_passes, tested_refused}
+use Rattle.reader.proofs.PromiseLaws.{reread_passed}
 use Rattle.reader.proofs.write.reread.Goals as goal
 
-pub returns-in-Refused : goal.returns-in-Refused
+pub returns-in_err-tested : goal.returns-in_err-tested
 unfolding reread_asked
-returns-in-Refused c =
-    let e = sym c.outcome_of-outcome.ensures ∙ c.in-Refused.is in
-    record { value = rw e; buf_after = rw e; octets = λ i. omega (arith, c.type_inv.sheet i) }
+returns-in_err-tested c =
+    let p = err_from_is_err_and c.from_residual.result c.from_residual.ensures.1 in
+    let e = tested_refused c.args.sheet.now _ (sym c.in_err-tested.ensures) in
+    record { value = rw (p.1, p.2, e); buf_after = rw e; octets = λ i. omega (arith, c.type_inv.sheet i) }
 
-pub returns-in-Done : goal.returns-in-Done
-returns-in-Done c =
-    let b = c.args.sheet.now in
-    let done : (read_of b).outcome ≡ Outcome.Done = sym c.outcome_of-outcome.ensures ∙ c.in-Done.is in
-    let o : Octets b = λ i. omega (arith, c.type_inv.sheet i) in
-    let e = reread_done b o done in
-    let w = c.bytes_into.ensures in
-    record { value = rw e w.value; buf_after = rw e w.buf_after; octets = o }
+pub returns : goal.returns
+returns c =
+    let o : Octets c.args.sheet.now = λ i. omega (arith, c.type_inv.sheet i) in
+    let e = reread_passed c.args.sheet.now o (tested_passes c.args.sheet.now (sym c.in_ok-tested.ensures)) in
+    rw e (record { value = c.bytes_into.ensures.value; buf_after = c.bytes_into.ensures.buf_after; octets = o })

@@ -3,17 +3,17 @@ use mathlib.Core.Bool.{Bool, true, false, ◌&&◌}
 use mathlib.Core.Path.{◌≡◌, sym, ◌∙◌}
 use Rattle.reader.specs.Codes.{coded}
 use Rattle.reader.specs.Layout.{formed}
-use Rattle.reader.specs.Read.{read_of}
+use Rattle.reader.specs.Inner.Tested.{tested_of}
 use Rattle.reader.specs.Song.{song_in}
 use Rattle.reader.specs.Within.{within}
 use Rattle.reader.proofs.RoomyLaws.{formed_roomy}
-use Rattle.reader.proofs.read.outcome_of.Goals as goal
+use Rattle.reader.proofs.read.tested.Goals as goal
 
 told : {a a' b b' t : Bool} → a ≡ a' → b ≡ b' → (a && b) ≡ t → (a' && b') ≡ t
 told p q e = rw (p, q) at e
 
 pub returns-then-not-formed : goal.returns-then-not-formed
-unfolding read_of
+unfolding tested_of
 returns-then-not-formed c =
     let f = c.is_formed-formed in
     let e : formed c.args.bytes.now ≡ false = sym f.ensures ∙ c.if-not-formed.true in
@@ -26,7 +26,7 @@ pub song_passes-within-requires : goal.song_passes-within-requires
 song_passes-within-requires c = record { l_value = c.requires; roomy = formed_roomy c.args.bytes.now (sym c.is_formed-formed.ensures ∙ c.if-not-formed.false) }
 
 pub returns-then-not-coded-within : goal.returns-then-not-coded-within
-unfolding read_of
+unfolding tested_of
 returns-then-not-coded-within c =
     let b = c.args.bytes.now in
     let w = c.song_passes-within in
@@ -35,7 +35,7 @@ returns-then-not-coded-within c =
     rw (sym c.is_formed-formed.ensures ∙ c.if-not-formed.false, n)
 
 pub returns : goal.returns
-unfolding read_of
+unfolding tested_of
 returns c =
     let b = c.args.bytes.now in
     let w = c.song_passes-within in
