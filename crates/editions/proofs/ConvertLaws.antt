@@ -26,7 +26,9 @@ use Rattle.pages.proofs.SheetLaws.{sheet_in_most, edition_most}
 use Rattle.reader.specs.Composed.{composed_song}
 use Rattle.reader.specs.Promise.{Octets, Reads}
 use Rattle.reader.specs.Read.{read_of}
-use Rattle.reader.specs.Song.{sheet_of}
+use Rattle.reader.specs.Song.{song_in, sheet_of}
+use Rattle.std.proofs.Common.{Result}
+use Rattle.reader.proofs.AskedLaws.{read_song}
 use Rattle.reader.specs.declared.song.Song.{Song}
 use Rattle.reader.proofs.EditionLaws.{sheet_is}
 use Rattle.reader.proofs.PromiseLaws.{reader_promise, reads_told}
@@ -87,7 +89,7 @@ module _ {sheet : List ℕ} {v : Song} (r : ReadAs sheet v) where
   bytes_seed : sheet ≡ named_sheet v.edition v → OfSeed v
   bytes_seed e =
       song_seed v
-      (sym (reads_told sheet v r.reads).1 ∙ ap (λ (b : List ℕ). (read_of b).song) e ∙ (reads_told (named_sheet v.edition v) (named_song v.edition v) (named_reads v.edition)).1)
+      (read_song sheet v (reads_told sheet v r.reads) ∙ ap song_in e ∙ sym (read_song (named_sheet v.edition v) (named_song v.edition v) (reads_told (named_sheet v.edition v) (named_song v.edition v) (named_reads v.edition))))
 
   pub asked_seed : named_asked v.edition v ≡ Writes sheet → OfSeed v
   asked_seed e = bytes_seed (sym (ap bytes_of e))
@@ -104,7 +106,7 @@ module _ {sheet : List ℕ} {v : Song} (r : ReadAs sheet v) where
 
   convert_held : (wanted : Edition) → convert_asked wanted sheet ≡ held_asked wanted sheet v
   unfolding convert_asked
-  convert_held wanted = rw ((reads_told sheet v r.reads).0, (reads_told sheet v r.reads).1)
+  convert_held wanted = rw (reads_told sheet v r.reads)
 
   pub convert_seed : (wanted : Edition) → OfSeed v → convert_asked wanted sheet ≡ named_asked wanted v
   convert_seed wanted o = convert_held wanted ∙ held_same wanted sheet v (seed_held o)
@@ -136,10 +138,10 @@ held_most wanted sheet v =
 
 pub convert_most : (wanted : Edition) (sheet : List ℕ) → length (bytes_of (convert_asked wanted sheet)) ≤ sheet_most wanted
 unfolding convert_asked
-convert_most wanted sheet = asked_most (read_of sheet).outcome (held_asked wanted sheet (read_of sheet).song) (sheet_most wanted) (held_most wanted sheet (read_of sheet).song)
+convert_most wanted sheet = asked_most (read_of sheet) (held_asked wanted sheet) (sheet_most wanted) (held_most wanted sheet)
 
 -- ---- the song that is composed for the song v
-module _ (v : Song) {number : ℕ} {song : Composed} (numbered : number ≡ style_number_of v.score.style) (composed : song ≡ compose_of number v.seed) where
+module _ (v : Song) {number : ℕ} {song : Result Composed Refusal} (numbered : number ≡ style_number_of v.score.style) (composed : song ≡ compose_of number v.seed) where
   pub composed_promised : Promised song
   composed_promised = rw composed (done_promise number v.seed)
 

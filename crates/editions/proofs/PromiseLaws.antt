@@ -4,9 +4,10 @@ use mathlib.Core.List.{List}
 use Prim.Native.Nat.{ℕ, ◌^◌, ◌<◌}
 use native.Mathlib.Omega.{arith}
 use Rattle.composer.specs.Compose.{composed_of}
-use Rattle.composer.specs.Refusal.{Gives}
+use Rattle.composer.specs.Refusal.{Gives, answered}
 use Rattle.composer.specs.Style.{style_number_of}
-use Rattle.composer.specs.declared.refusal.Outcome.{Outcome}
+use Rattle.std.proofs.Common.{Result, Ok, Err}
+use Rattle.composer.specs.declared.refusal.Refusal.{Refusal}
 use Rattle.composer.specs.declared.score.Score.{Score}
 use Rattle.composer.specs.declared.style.Style.{Style}
 use Rattle.composer.proofs.ComposeLaws.{song_promise}
@@ -45,18 +46,19 @@ module _ (edition : Edition) (style : Style) (seed : ℕ) where
       convert_seed (seed_read edition style seed sheet small asked) wanted composed_seed ∙ ap (λ (x : Style). sheet_in wanted (style_number_of x) seed) style_named
 
 -- ---- a sheet that is taken is read
-taken_by : (o : Outcome) (x : Song) (a : Asked) (bytes : List ℕ) → asked_by o a ≡ Writes bytes → answer_by o x ≡ Gives x
-taken_by Outcome.Done x a bytes e = refl
-taken_by (Outcome.Refused r) x a bytes e = let z : ◌≡◌ {A = ℕ} 0 1 = cc in absurd (omega arith)
+taken_by : (o : Result Song Refusal) (a : Song → Asked) (bytes : List ℕ) → asked_by o a ≡ Writes bytes → (v : Song) × (answered o ≡ Gives v)
+taken_by (Ok v) a bytes e = (v, refl)
+taken_by (Err r) a bytes e = let z : ◌≡◌ {A = ℕ} 0 1 = cc in absurd (omega arith)
 
-taken_reads : (wanted : Edition) (sheet bytes : List ℕ) → Converts wanted sheet bytes → Reads sheet (read_of sheet).song
+taken_reads : (wanted : Edition) (sheet bytes : List ℕ) → Converts wanted sheet bytes → (v : Song) × Reads sheet v
 unfolding convert_asked
-taken_reads wanted sheet bytes e = taken_by (read_of sheet).outcome (read_of sheet).song (held_asked wanted sheet (read_of sheet).song) bytes e
+taken_reads wanted sheet bytes e = taken_by (read_of sheet) (held_asked wanted sheet) bytes e
 
 taken_seed : (wanted : Edition) (sheet : List ℕ) → Octets sheet → Converted wanted sheet → SeedSheet sheet
 taken_seed wanted sheet octets c =
-    let v = (read_of sheet).song in
-    let r = read_as sheet v octets (taken_reads wanted sheet c.bytes c.converts) in
+    let t = taken_reads wanted sheet c.bytes c.converts in
+    let v = t.0 in
+    let r = read_as sheet v octets t.1 in
     record { edition = v.edition; style = v.score.style; seed = v.seed; small = r.small; asked = seed_asked r (convert_taken r wanted c.bytes c.converts) }
 
 seed_taken : (wanted : Edition) (sheet : List ℕ) → SeedSheet sheet → Converted wanted sheet
@@ -111,8 +113,8 @@ converter_promise = record {
 pub convert_answers : (wanted : Edition) (sheet b : List ℕ) → Octets sheet → ConvertAnswers wanted sheet b
 unfolding convert_asked
 convert_answers wanted sheet b octets = record {
-  fields = asked_refused (read_of sheet).outcome (read_of sheet).song (held_asked wanted sheet (read_of sheet).song) 7 b;
-  values = asked_refused (read_of sheet).outcome (read_of sheet).song (held_asked wanted sheet (read_of sheet).song) 8 b;
+  fields = asked_refused (read_of sheet) (held_asked wanted sheet) 7 b;
+  values = asked_refused (read_of sheet) (held_asked wanted sheet) 8 b;
   other = λ v reads no. rw (convert_other (read_as sheet v octets reads) wanted no) (refl, refl);
   short = λ v reads o h. rw (convert_bytes (read_as sheet v octets reads) wanted o) (call_answers (Writes (named_sheet wanted v)) b (refused b (named_sheet wanted v) h));
   written = λ v reads o h. rw (convert_bytes (read_as sheet v octets reads) wanted o) (room_answers (named_sheet wanted v) b h);

@@ -28,4 +28,4 @@ held_asked wanted sheet v = cond (same_bytes sheet (named_sheet v.edition v)) (n
 
 -- the reader's refusals come first; 2 for a short buffer comes last, in `written_of`
 unfoldable pub convert_asked : Edition → List ℕ → Asked
-convert_asked wanted sheet = asked_by (read_of sheet).outcome (held_asked wanted sheet (read_of sheet).song)
+convert_asked wanted sheet = asked_by (read_of sheet) (held_asked wanted sheet)

@@ -15,7 +15,7 @@ use Rattle.laws.proofs.Writes.{wrote_first}
 use Rattle.composer.specs.Refusal.{Answer, Gives, Refuses, answered}
 use Rattle.composer.specs.declared.refusal.Refusal.{Refusal}
 use Rattle.pages.specs.Answer.{Asked, Writes, Declines, bytes_of, asked_by, written_of, buffer_of, written_count, CallAnswers}
-use Rattle.std.proofs.Common.{Result, Ok, Err, IfOk}
+use Rattle.std.proofs.Common.{Result, Ok, Err}
 
 pub refused : (b bytes : List ℕ) → length b < length bytes → (Err Refusal.ShortBuffer ≡ written_of (length b) (Writes bytes)) × (b ≡ buffer_of b (Writes bytes))
 refused b bytes h =
@@ -71,8 +71,8 @@ beyond (Writes bytes) b = go (ltb (length b) (length bytes))
 beyond (Declines r) b = refl
 
 -- a refusal writes nothing
-pub asked_most : {A : Type 0} (o : Result A Refusal) (a : A → Asked) (m : ℕ) → IfOk o (λ (x : A). length (bytes_of (a x)) ≤ m) → length (bytes_of (asked_by o a)) ≤ m
-asked_most (Ok x) a m h = h
+pub asked_most : {A : Type 0} (o : Result A Refusal) (a : A → Asked) (m : ℕ) → ((x : A) → length (bytes_of (a x)) ≤ m) → length (bytes_of (asked_by o a)) ≤ m
+asked_most (Ok x) a m h = h x
 asked_most (Err r) a m h = omega arith
 
 -- what was refused before is what the call answers

@@ -1,5 +1,6 @@
 -- What a call has to write, and what of it is seen: the answer, and the buffer afterwards. Definitions only.
 use Rattle.std.specs.Prelude.{◌≡◌, cond, List, [], ◌++◌, ℕ, ltb, length, drop, Result, Ok, Err}
+use Rattle.std.specs.Result.{result_unwrap_or}
 use Rattle.composer.specs.Refusal.{Answer, answered}
 use Rattle.composer.specs.declared.refusal.Refusal.{Refusal}
 
@@ -29,8 +30,7 @@ buffer_of b (Declines r) = b
 
 -- how many bytes are written
 abbrev pub written_count : Result ℕ Refusal → ℕ
-written_count (Ok n) = n
-written_count (Err r) = 0
+written_count w = result_unwrap_or w 0
 
 -- lent the buffer b, the call answers x and leaves b' there
 abbrev pub CallAnswers : Asked → List ℕ → Answer ℕ → List ℕ → Type 0

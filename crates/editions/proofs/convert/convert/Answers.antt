@@ -1,22 +1,19 @@
 -- By what reading answers, and then by the song that was read. Assumes nothing.
-use mathlib.Core.Path.{◌≡◌}
-use Rattle.composer.specs.declared.refusal.Outcome.{Outcome}
-use Rattle.reader.specs.Read.{read_of}
+use mathlib.Core.Path.{sym, ◌∙◌}
+use Rattle.std.proofs.lemmas.Result.{err_from_is_err_and}
 use Rattle.editions.specs.Convert.{convert_asked}
 use Rattle.editions.proofs.convert.convert.Goals as goal
 
-pub returns-in-Refused : goal.returns-in-Refused
+pub returns-in_err-v : goal.returns-in_err-v
 unfolding convert_asked
-returns-in-Refused c =
-    let r = c.read-r.ensures in
-    let e = rw r.value at c.in-Refused.is in
-    record { value = rw e; buf_after = rw e; octets = r.octets }
+returns-in_err-v c =
+    let p = err_from_is_err_and c.from_residual.result c.from_residual.ensures.1 in
+    let r = c.in_err-v.ensures in
+    record { value = rw (p.1, p.2, ← r.value); buf_after = rw (← r.value); octets = r.octets }
 
-pub returns-in-Done : goal.returns-in-Done
+pub returns : goal.returns
 unfolding convert_asked
-returns-in-Done c =
+returns c =
     let w = c.held_into.ensures in
-    let r = c.read-r.ensures in
-    let b = c.args.sheet.now in
-    let done : (read_of b).outcome ≡ Outcome.Done = rw r.value at c.in-Done.is in
-    record { value = rw (done, ← r.value) w.value; buf_after = rw (done, ← r.value) w.buf_after; octets = r.octets }
+    let r = c.in_ok-v.ensures in
+    record { value = rw (← r.value) w.value; buf_after = rw (← r.value) w.buf_after; octets = r.octets }

@@ -22,10 +22,10 @@ module _ (a : Asked) (b : List ℕ) {w : Result ℕ Refusal} {n : ℕ} (room : l
 
 pub slice_bounds-same_bytes-end : goal.slice_bounds-same_bytes-end
 slice_bounds-same_bytes-end c =
-    omega (arith, few (sheet_by c.args.edition c.args.seed c.args.song) c.args.room.now c.requires.fits c.composed_into-w.ensures.value c.count-n.ensures)
+    omega (arith, few (sheet_by c.args.edition c.args.seed c.args.song) c.args.room.now c.requires.fits c.composed_into.ensures.value c.unwrap_or-n.ensures)
 
 pub returns : goal.returns
 returns c =
-    let w = c.composed_into-w.ensures in
+    let w = c.composed_into.ensures in
     c.same_bytes.ensures
-    ∙ ap (same_bytes c.args.sheet.now) (whole (sheet_by c.args.edition c.args.seed c.args.song) c.args.room.now c.requires.fits w.value c.count-n.ensures w.buf_after)
+    ∙ ap (same_bytes c.args.sheet.now) (whole (sheet_by c.args.edition c.args.seed c.args.song) c.args.room.now c.requires.fits w.value c.unwrap_or-n.ensures w.buf_after)
