@@ -5,7 +5,6 @@ ghost use Rattle.pages.specs.Answer.{written_of, buffer_of};
 ghost use Rattle.halls.specs.List.{is_outside, list_bytes, list_asked};
 
 use composer::refusal::Refusal;
-use pages::answer::Written;
 use pages::put::put_u64;
 use streams::mix::splitmix_draw;
 
@@ -34,17 +33,16 @@ fn is_outside(count: u64) -> bool
 // Writes a hall's list of `count` seeds from the buffer's first byte on and answers its length; what lies beyond stays.
 // A count outside 1 to 4,096 is refused with 6, whatever the buffer, then a buffer that is too short with 2; a refusal
 // writes nothing.
-pub fn hall_list(hall: u64, count: u64, buf: &mut [u8]) -> Written
+pub fn hall_list(hall: u64, count: u64, buf: &mut [u8]) -> Result<usize, Refusal>
     ensures value { result ≡ written_of (length buf.old) (list_asked hall count) }
     ensures buf_after { buf.new ≡ buffer_of buf.old (list_asked hall count) }
 {
     let outside = is_outside(count);
     if outside {
-        return Written::Refused(Refusal::HallCount);
+        return Err(Refusal::HallCount);
     }
     if buf.len() as u64 / 8 < count {
-        return Written::Refused(Refusal::ShortBuffer);
+        return Err(Refusal::ShortBuffer);
     }
-    let n = put_seeds(buf, hall, count);
-    Written::Bytes(n)
+    Ok(put_seeds(buf, hall, count))
 }

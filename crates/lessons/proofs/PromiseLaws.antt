@@ -7,7 +7,6 @@ use native.Mathlib.Omega.{arith}
 use borrow.Author.Tests.{lt-ltb, le-ltb, eq-eqb, ne_eqb}
 use lib.Dec.{ltb}
 use Rattle.composer.specs.Refusal.{number_of, Answer, Gives, Refuses, answered}
-use Rattle.composer.specs.declared.refusal.Outcome.{Outcome}
 use Rattle.composer.specs.declared.refusal.Refusal.{Refusal}
 use Rattle.lessons.specs.Lesson.{lesson_checked, NoneFits, Found, Suits, AllowedBy, LessonAllowed}
 use Rattle.lessons.specs.Promise.{SeedSpan, Known, LessonAnswers}
@@ -15,7 +14,7 @@ use Rattle.lessons.specs.Wishes.{is_unknown}
 use Rattle.lessons.specs.declared.wishes.Wishes.{Wishes}
 use Rattle.lessons.proofs.CheckLaws.{not_done, by_style, by_span, by_wish, by_none}
 use Rattle.lessons.proofs.SeedSpanLaws.{seeds_none, seeds_many, seeds_past, seeds_are}
-use Rattle.std.proofs.Common.{Result}
+use Rattle.std.proofs.Common.{Result, Ok, Err}
 
 -- ---- wishes
 key_unknown : (w : Wishes) → 12 < w.key → is_unknown w ≡ true
@@ -31,13 +30,13 @@ wishes_known w k =
 
 -- ---- the answers
 -- a refusal of the checks is the answer
-told : (c : Outcome) (r : Refusal) (Fits : ℕ → Type 0) (start count : ℕ) (x : Result ℕ Refusal) → AllowedBy c Fits start count x → c ≡ Outcome.Refused r → answered x ≡ Refuses (number_of r)
-told Outcome.Done r Fits start count x a e = absurd (not_done r (sym e))
-told (Outcome.Refused s) r Fits start count x a e = ap answered a ∙ ap (λ (q : Refusal). Refuses (number_of q)) (let z : s ≡ r = cc in z)
+told : (c : Result (Unit {0}) Refusal) (r : Refusal) (Fits : ℕ → Type 0) (start count : ℕ) (x : Result ℕ Refusal) → AllowedBy c Fits start count x → c ≡ Err r → answered x ≡ Refuses (number_of r)
+told (Ok u) r Fits start count x a e = absurd (not_done r (sym e))
+told (Err s) r Fits start count x a e = ap answered a ∙ ap (λ (q : Refusal). Refuses (number_of q)) (let z : s ≡ r = cc in z)
 
-found_of : (c : Outcome) (Fits : ℕ → Type 0) (start count : ℕ) (x : Result ℕ Refusal) → AllowedBy c Fits start count x → c ≡ Outcome.Done → Found Fits start count (answered x)
-found_of Outcome.Done Fits start count x a e = a
-found_of (Outcome.Refused s) Fits start count x a e = absurd (not_done s e)
+found_of : (c : Result (Unit {0}) Refusal) (Fits : ℕ → Type 0) (start count : ℕ) (x : Result ℕ Refusal) → AllowedBy c Fits start count x → c ≡ Ok tt → Found Fits start count (answered x)
+found_of (Ok u) Fits start count x a e = a
+found_of (Err s) Fits start count x a e = absurd (not_done s e)
 
 -- 12 exactly if none fits
 module _ (Fits : ℕ → Type 0) (start count : ℕ) where
@@ -53,7 +52,7 @@ module _ (style start count : ℕ) (w : Wishes) (x : Result ℕ Refusal) where
   pub lesson_answers : LessonAllowed style start count w x → LessonAnswers style start count w x
   lesson_answers a =
       let c = lesson_checked style start count w in
-      let refused : (r : Refusal) → c ≡ Outcome.Refused r → answered x ≡ Refuses (number_of r) = λ r e. told c r (Suits style w) start count x a e in
+      let refused : (r : Refusal) → c ≡ Err r → answered x ≡ Refuses (number_of r) = λ r e. told c r (Suits style w) start count x a e in
       let found : style < 2 → SeedSpan start count → Known w → Found (Suits style w) start count (answered x) =
       λ h s k. found_of c (Suits style w) start count x a (by_none style start count w (omega arith) (seeds_are start count s) (wishes_known w k)) in
       record {

@@ -4,9 +4,11 @@ use mathlib.Core.Logic.{⊎_elim}
 use Prim.Native.Nat.{ℕ, ◌+◌, ◌<◌}
 use native.Mathlib.Nat.{eq-or-lt_of_le}
 use native.Mathlib.Omega.{arith}
+use Rattle.std.proofs.Common.{Result, IsOkAnd}
 use Rattle.composer.specs.Compose.{style_by}
 use Rattle.composer.specs.Refusal.{Answer, Gives, Refuses}
 use Rattle.composer.specs.declared.compose.Composed.{Composed}
+use Rattle.composer.specs.declared.refusal.Refusal.{Refusal}
 use Rattle.composer.proofs.ComposeLaws.{known_style}
 use Rattle.lessons.specs.Inner.Search.{SuitsIn}
 use Rattle.lessons.specs.Lesson.{NoneFits, Found, Suits}
@@ -24,10 +26,10 @@ module _ (Fits : ℕ → Type 0) (start : ℕ) where
 -- ---- the song that `compose` gives for a known style's number
 module _ (style : ℕ) (w : Wishes) (known : style < 2) where
   suits_in : (seed : ℕ) → SuitsIn (style_by style) w seed → Suits style w seed
-  suits_in seed h = subst (λ (c : Composed). Has w c) (sym (known_style style seed known)) h
+  suits_in seed h = subst (λ (o : Result Composed Refusal). IsOkAnd o (Has w)) (sym (known_style style seed known)) h
 
   suits_out : (seed : ℕ) → Suits style w seed → SuitsIn (style_by style) w seed
-  suits_out seed h = subst (λ (c : Composed). Has w c) (known_style style seed known) h
+  suits_out seed h = subst (λ (o : Result Composed Refusal). IsOkAnd o (Has w)) (known_style style seed known) h
 
   pub found_by : (start count : ℕ) (x : Answer ℕ) → Found (SuitsIn (style_by style) w) start count x → Found (Suits style w) start count x
   found_by start count (Gives seed) h = (h.0, suits_in seed h.1)

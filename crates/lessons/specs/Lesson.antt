@@ -1,8 +1,7 @@
 -- A seed for a lesson: what a call may answer. Definitions only.
-use Rattle.std.specs.Prelude.{◌≡◌, Bool, cond, ◌||◌, ℕ, ◌+◌, ◌-◌, ◌^◌, ◌≤◌, ◌<◌, ltb, Result, Ok, Err}
+use Rattle.std.specs.Prelude.{◌≡◌, Bool, cond, ◌||◌, ℕ, ◌+◌, ◌-◌, ◌^◌, ◌≤◌, ◌<◌, ltb, Result, Ok, Err, IsOkAnd}
 use Rattle.composer.specs.Compose.{compose_of}
-use Rattle.composer.specs.Refusal.{number_of, Answer, Gives, Refuses, answered}
-use Rattle.composer.specs.declared.refusal.Outcome.{Outcome}
+use Rattle.composer.specs.Refusal.{Answer, Gives, Refuses, answered}
 use Rattle.composer.specs.declared.refusal.Refusal.{Refusal}
 use Rattle.lessons.specs.Wishes.{Has, is_unknown}
 use Rattle.lessons.specs.declared.wishes.Wishes.{Wishes}
@@ -12,12 +11,12 @@ unfoldable pub is_no_span : ℕ → ℕ → Bool
 is_no_span start count = ltb count 1 || ltb 65536 count || ltb (2 ^ 64 - 1) (start + count - 1)
 
 -- what is refused whatever the songs are: 1, then 10, then 11
-abbrev pub lesson_checked : ℕ → ℕ → ℕ → Wishes → Outcome
+abbrev pub lesson_checked : ℕ → ℕ → ℕ → Wishes → Result (Unit {0}) Refusal
 lesson_checked style start count w =
-    cond (ltb 1 style) (Outcome.Refused Refusal.UnknownStyle)
-    (cond (is_no_span start count) (Outcome.Refused Refusal.LessonSpan)
-    (cond (is_unknown w) (Outcome.Refused Refusal.LessonWish)
-    Outcome.Done))
+    cond (ltb 1 style) (Err Refusal.UnknownStyle)
+    (cond (is_no_span start count) (Err Refusal.LessonSpan)
+    (cond (is_unknown w) (Err Refusal.LessonWish)
+    (Ok tt)))
 
 -- ---- what is left to the program: which of the seeds that fit is given
 -- one of the `count` seeds from `start` on
@@ -34,19 +33,14 @@ Found Fits start count (Gives seed) = InSpan start count seed × Fits seed
 Found Fits start count (Refuses n) = (n ≡ 12) × NoneFits Fits start count
 
 -- ---- the answers
--- as document 02 has them: the seed, or the number alone
-abbrev pub answered : Result ℕ Refusal → Answer ℕ
-answered (Ok seed) = Gives seed
-answered (Err r) = Refuses (number_of r)
-
 -- the song that `compose` gives for the style and the seed has what is wished
 abbrev pub Suits : ℕ → Wishes → ℕ → Type 0
-Suits style w seed = Has w (compose_of style seed)
+Suits style w seed = IsOkAnd (compose_of style seed) (Has w)
 
 -- the refusals come first
-abbrev pub AllowedBy : Outcome → (ℕ → Type 0) → ℕ → ℕ → Result ℕ Refusal → Type 0
-AllowedBy Outcome.Done Fits start count x = Found Fits start count (answered x)
-AllowedBy (Outcome.Refused r) Fits start count x = x ≡ Err r
+abbrev pub AllowedBy : Result (Unit {0}) Refusal → (ℕ → Type 0) → ℕ → ℕ → Result ℕ Refusal → Type 0
+AllowedBy (Ok u) Fits start count x = Found Fits start count (answered x)
+AllowedBy (Err r) Fits start count x = x ≡ Err r
 
 -- those that a call may give
 abbrev pub LessonAllowed : ℕ → ℕ → ℕ → Wishes → Result ℕ Refusal → Type 0

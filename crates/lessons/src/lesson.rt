@@ -1,12 +1,12 @@
 // A seed for a lesson: one of a span whose song has what is wished.
 ghost use Rattle.std.specs.Prelude.{◌≡◌, ◌+◌, ◌^◌, ◌≤◌};
+ghost use Rattle.composer.specs.Refusal.{answered};
 ghost use Rattle.lessons.specs.Inner.Search.{is_suited, SuitsIn};
-ghost use Rattle.lessons.specs.Lesson.{is_no_span, lesson_checked, Found, lesson_answered, LessonAllowed};
+ghost use Rattle.lessons.specs.Lesson.{is_no_span, lesson_checked, Found, LessonAllowed};
 
-use crate::answer::Lesson;
 use crate::wishes::Wishes;
 use composer::compose::style_by;
-use composer::refusal::{Outcome, Refusal};
+use composer::refusal::Refusal;
 use composer::style::Style;
 use composer::traits::traits_of;
 
@@ -19,19 +19,19 @@ fn suits(style: Style, wishes: Wishes, seed: u64) -> bool
 }
 
 // A seed among the `count` seeds from `start` on whose song has what is wished, or 12.
-fn search(style: Style, wishes: Wishes, start: u64, count: u64) -> Lesson
+fn search(style: Style, wishes: Wishes, start: u64, count: u64) -> Result<u64, Refusal>
     requires { start + count ≤ 2 ^ 64 }
-    ensures { Found (SuitsIn style wishes) start count (lesson_answered result) }
+    ensures { Found (SuitsIn style wishes) start count (answered result) }
 {
     let mut i: u64 = 0;
     while i < count {
         let seed = start + i;
         if suits(style, wishes, seed) {
-            return Lesson::Seed(seed);
+            return Ok(seed);
         }
         i += 1;
     }
-    Lesson::Refused(Refusal::NoSeed)
+    Err(Refusal::NoSeed)
 }
 
 // Whether it is no span: of no seed, of more than 65,536, or past the largest seed. Nothing is added up, so nothing
@@ -49,34 +49,28 @@ fn is_no_span(start: u64, count: u64) -> bool
 }
 
 // What is refused before any seed is looked at.
-fn checked(style: u8, start: u64, count: u64, wishes: Wishes) -> Outcome
+fn checked(style: u8, start: u64, count: u64, wishes: Wishes) -> Result<(), Refusal>
     ensures { result ≡ lesson_checked style start count wishes }
 {
     if style > 1 {
-        return Outcome::Refused(Refusal::UnknownStyle);
+        return Err(Refusal::UnknownStyle);
     }
     if is_no_span(start, count) {
-        return Outcome::Refused(Refusal::LessonSpan);
+        return Err(Refusal::LessonSpan);
     }
     if wishes.is_unknown() {
-        return Outcome::Refused(Refusal::LessonWish);
+        return Err(Refusal::LessonWish);
     }
-    Outcome::Done
+    Ok(())
 }
 
 // Some seed among the `count` seeds from `start` on whose song, in style 0 or 1, has key, tempo and voice as wished;
 // which of them is left to this program. Any other style is refused with 1, then a count outside 1 to 65,536 or a span
 // past the largest seed with 10, then a wish outside its codes with 11, and then with 12 just where no seed of the span
 // has all three.
-pub fn lesson(style: u8, start: u64, count: u64, wishes: Wishes) -> Lesson
+pub fn lesson(style: u8, start: u64, count: u64, wishes: Wishes) -> Result<u64, Refusal>
     ensures { LessonAllowed style start count wishes result }
 {
-    let outcome = checked(style, start, count, wishes);
-    match outcome {
-        Outcome::Refused(r) => Lesson::Refused(r),
-        Outcome::Done => {
-            let known = style_by(style);
-            search(known, wishes, start, count)
-        }
-    }
+    checked(style, start, count, wishes)?;
+    search(style_by(style), wishes, start, count)
 }

@@ -1,6 +1,5 @@
 // The search for a seed for a lesson.
 #![tactic(auto)]
 
-pub mod answer;
 pub mod lesson;
 pub mod wishes;

@@ -1,5 +1,5 @@
 -- Answers as C takes them. Definitions only.
-use Rattle.std.specs.Prelude.{ℤ, pos, neg_ℤ, Result, Ok, Err}
+use Rattle.std.specs.Prelude.{ℕ, ℤ, pos, neg_ℤ, Result, Ok, Err}
 use Rattle.composer.specs.Refusal.{number_of}
 use Rattle.composer.specs.declared.refusal.Refusal.{Refusal}
 

@@ -17,10 +17,8 @@ ghost use Rattle.seqochanu.specs.Lesson.{wishes_of, LessonCalled};
 use composer::refusal::Refusal;
 use editions::convert::convert;
 use halls::list::hall_list;
-use lessons::answer::Lesson;
 use lessons::lesson::lesson;
 use lessons::wishes::Wishes;
-use pages::answer::Written;
 use pages::edition::Edition;
 use pages::page::bar_page;
 use pages::sheet::sheet;
@@ -34,13 +32,13 @@ fn refusal_code(r: Refusal) -> i64
 }
 
 // The length, or minus the refusal's number.
-fn code(w: Written) -> i64
+fn code(w: Result<usize, Refusal>) -> i64
     requires { written_count w < 2 ^ 63 }
     ensures { result ≡ code_of w }
 {
     match w {
-        Written::Bytes(n) => n as i64,
-        Written::Refused(r) => refusal_code(r),
+        Ok(n) => n as i64,
+        Err(r) => refusal_code(r),
     }
 }
 
@@ -139,10 +137,10 @@ pub extern "C" fn seqochanu_lesson(
     };
     let answer = lesson(style, start, count, wishes);
     match answer {
-        Lesson::Seed(found) => {
+        Ok(found) => {
             *seed = found;
             0
         }
-        Lesson::Refused(r) => refusal_code(r),
+        Err(r) => refusal_code(r),
     }
 }

@@ -13,9 +13,9 @@ pub returns-then-buf-count : goal.returns-then-buf-count
 returns-then-buf-count c = let all = list_short c.args.hall c.args.count c.args.buf.now (search rules) (omega arith) in
     record { value = all.0; buf_after = all.1 }
 
-pub put_seeds-n-requires : goal.put_seeds-n-requires
-put_seeds-n-requires c = omega arith
+pub put_seeds-requires : goal.put_seeds-requires
+put_seeds-requires c = omega arith
 
 pub returns : goal.returns
-returns c = let all = list_served c.args.hall c.args.count c.args.buf.now (sym c.is_outside-outside.ensures ∙ c.if-outside.false) c.put_seeds-n.ensures in
+returns c = let all = list_served c.args.hall c.args.count c.args.buf.now (sym c.is_outside-outside.ensures ∙ c.if-outside.false) c.put_seeds.ensures in
     record { value = all.0; buf_after = all.1 }
