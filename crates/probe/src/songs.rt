@@ -161,7 +161,8 @@ pub fn probe_song(style: u8, seed: u64) -> u64
     ensures { result ≡ song_sum style seed }
 {
     let song = compose(style, seed);
-    match song.outcome {
+    let outcome = song.outcome;
+    match outcome {
         Outcome::Refused(_) => 0,
         Outcome::Done => {
             let form = arrange(seed);
