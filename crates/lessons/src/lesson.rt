@@ -23,13 +23,11 @@ fn search(style: Style, wishes: Wishes, start: u64, count: u64) -> Lesson
     requires { start + count ≤ 2 ^ 64 }
     ensures { Found (SuitsIn style wishes) start count (lesson_answered result) }
 {
-    let mut i: u64 = 0;
-    while i < count {
+    for i in 0..count {
         let seed = start + i;
         if suits(style, wishes, seed) {
             return Lesson::Seed(seed);
         }
-        i += 1;
     }
     Lesson::Refused(Refusal::NoSeed)
 }
