@@ -6,7 +6,6 @@ ghost use Rattle.pages.specs.Writable.{Promised};
 ghost use Rattle.reader.specs.Promise.{Octets};
 ghost use Rattle.editions.specs.Convert.{same_bytes, held_asked, convert_asked};
 
-use crate::same::same_bytes;
 use composer::compose::{Composed, compose};
 use composer::refusal::{Outcome, Refusal};
 use pages::answer::Written;
@@ -24,7 +23,7 @@ fn is_own(sheet: &[u8], edition: Edition, seed: u64, song: Composed, room: &mut 
 {
     let w = composed_into(edition, seed, song, room);
     let n = w.count();
-    same_bytes(sheet, &room[..n])
+    sheet == &room[..n]
 }
 
 // What becomes of a sheet that names the song v: 9 unless it is, whole, what v's style and seed give in v's edition;
