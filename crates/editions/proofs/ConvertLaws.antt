@@ -6,6 +6,7 @@ use mathlib.Core.List.{List}
 use Prim.Native.Nat.{ℕ, ◌^◌, ◌≤◌, ◌<◌}
 use native.Mathlib.Omega.{arith}
 use lib.ListN.{length}
+use Rattle.std.proofs.lemmas.Slice.Eq.{bytes_eq-Decides}
 use Rattle.laws.proofs.Bools.{cond_by, either}
 use Rattle.composer.specs.Compose.{compose_of}
 use Rattle.composer.specs.Style.{style_number_of}
@@ -34,7 +35,6 @@ use Rattle.reader.proofs.EditionLaws.{sheet_is}
 use Rattle.reader.proofs.PromiseLaws.{reader_promise, reads_told}
 use Rattle.editions.specs.Convert.{same_bytes, named_asked, named_sheet, held_asked, convert_asked}
 use Rattle.editions.specs.Promise.{OfSeed, named_song}
-use Rattle.editions.proofs.SameLaws.{same_tells, same_self}
 
 -- ---- by the test
 module _ (wanted : Edition) (sheet : List ℕ) (v : Song) where
@@ -99,10 +99,10 @@ module _ {sheet : List ℕ} {v : Song} (r : ReadAs sheet v) where
   held = same_bytes sheet (named_sheet v.edition v)
 
   seed_held : OfSeed v → held ≡ true
-  seed_held o = rw (seed_asked o) (same_self sheet)
+  seed_held o = rw (seed_asked o) ((bytes_eq-Decides sheet sheet).1 refl)
 
   held_seed : held ≡ true → OfSeed v
-  held_seed e = bytes_seed (same_tells sheet (named_sheet v.edition v) e)
+  held_seed e = bytes_seed ((bytes_eq-Decides sheet (named_sheet v.edition v)).0 e)
 
   convert_held : (wanted : Edition) → convert_asked wanted sheet ≡ held_asked wanted sheet v
   unfolding convert_asked

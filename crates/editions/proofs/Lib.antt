@@ -1,3 +1,2 @@
 pub mod ConvertLaws
 pub mod PromiseLaws
-pub mod SameLaws

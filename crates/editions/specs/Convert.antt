@@ -1,18 +1,16 @@
 -- A sheet in the edition that is wanted: what the converter has to write. Definitions only.
-use Rattle.std.specs.Prelude.{Bool, ◌&&◌, cond, List, ℕ, eqb, length}
+use Rattle.std.specs.Prelude.{Bool, cond, List, ℕ, bytes_eq}
 use Rattle.composer.specs.Style.{style_number_of}
 use Rattle.composer.specs.declared.refusal.Refusal.{Refusal}
 use Rattle.pages.specs.Answer.{Asked, Declines, bytes_of, asked_by}
-use Rattle.pages.specs.Bytes.{byte_at}
 use Rattle.pages.specs.Sheet.{sheet_in}
 use Rattle.pages.specs.declared.edition.Edition.{Edition}
 use Rattle.reader.specs.Read.{read_of}
-use Rattle.reader.specs.Tests.{all_to}
 use Rattle.reader.specs.declared.song.Song.{Song}
 
 -- as many bytes, and the same ones
-unfoldable pub same_bytes : List ℕ → List ℕ → Bool
-same_bytes a b = eqb (length a) (length b) && all_to (λ i. eqb (byte_at a i) (byte_at b i)) (length a)
+abbrev pub same_bytes : List ℕ → List ℕ → Bool
+same_bytes a b = bytes_eq a b
 
 -- the sheet, in an edition, of the style and the seed that a song names
 abbrev pub named_asked : Edition → Song → Asked

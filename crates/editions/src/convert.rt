@@ -6,7 +6,6 @@ ghost use Rattle.pages.specs.Writable.{Promised};
 ghost use Rattle.reader.specs.Promise.{Octets};
 ghost use Rattle.editions.specs.Convert.{same_bytes, held_asked, convert_asked};
 
-use crate::same::same_bytes;
 use composer::compose::{Composed, compose};
 use composer::refusal::Refusal;
 use pages::edition::{Edition, SHEET_MOST};
@@ -28,7 +27,7 @@ fn is_own(
     ensures { result ≡ same_bytes sheet.now (bytes_of (sheet_by edition seed song)) }
 {
     let n = composed_into(edition, seed, song, room).unwrap_or(0);
-    same_bytes(sheet, &room[..n])
+    sheet == &room[..n]
 }
 
 // What becomes of a sheet that names the song v: 9 unless it is, whole, what v's style and seed give in v's edition;

@@ -2,4 +2,3 @@
 #![tactic(auto)]
 
 pub mod convert;
-pub mod same;

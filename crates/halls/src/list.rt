@@ -14,11 +14,9 @@ fn put_seeds(buf: &mut [u8], hall: u64, count: u64) -> usize
     ensures { Wrote buf.old buf.new 0 result (8 * count) (list_bytes hall count) }
 {
     let mut at: usize = 0;
-    let mut i: u64 = 0;
-    while i < count {
+    for i in 0..count {
         let seed = splitmix_draw(hall, i + 1);
         at = put_u64(buf, at, seed);
-        i += 1;
     }
     at
 }

@@ -15,6 +15,7 @@ pub fn read_full<R: Read>(input: &mut R, buf: &mut [u8]) -> (usize, io::Result<(
     ensures end { OnOk result.1 (result.0 < length buf.new → IsAtEnd (R.remaining input.new)) }
 {
     let mut done = 0;
+    // a while: no range gives its turns, since each read alone says how far it went
     while done < buf.len() {
         match input.read(&mut buf[done..]) {
             Ok(0) => break,

@@ -11,6 +11,7 @@ use composer::style::Style;
 use composer::traits::traits_of;
 
 // Whether the song of a seed has what is wished. It is not composed.
+#[tactic(auto, unfolding(crate::specs::Inner::Search::is_suited))]
 fn suits(style: Style, wishes: Wishes, seed: u64) -> bool
     ensures { result ≡ is_suited style wishes seed }
 {
@@ -23,19 +24,18 @@ fn search(style: Style, wishes: Wishes, start: u64, count: u64) -> Result<u64, R
     requires { start + count ≤ 2 ^ 64 }
     ensures { Found (SuitsIn style wishes) start count (answered result) }
 {
-    let mut i: u64 = 0;
-    while i < count {
+    for i in 0..count {
         let seed = start + i;
         if suits(style, wishes, seed) {
             return Ok(seed);
         }
-        i += 1;
     }
     Err(Refusal::NoSeed)
 }
 
 // Whether it is no span: of no seed, of more than 65,536, or past the largest seed. Nothing is added up, so nothing
 // wraps.
+#[tactic(auto, unfolding(crate::specs::Lesson::is_no_span))]
 fn is_no_span(start: u64, count: u64) -> bool
     ensures { result ≡ is_no_span start count }
 {

@@ -1,3 +1,3 @@
-pub mod CountersLaws
 pub mod DrawsLaws
+pub mod FillLaws
 pub mod FormsLaws

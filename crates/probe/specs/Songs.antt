@@ -1,19 +1,17 @@
 -- The numbers on a song's sheet, but for its style and seed, summed. Definitions only.
-use Rattle.std.specs.Prelude.{List, ℕ, ◌+◌, ◌<◌, get_or}
+use Rattle.std.specs.Prelude.{List, ℕ, ◌+◌, get_or, map, sum, take}
 use Rattle.std.specs.Float.{binary32}
 use Rattle.std.specs.Float.Ieee.{to_bits}
-use Rattle.laws.specs.Sums.{sum_to}
-use Rattle.composer.specs.Chord.{past_chord}
 use Rattle.composer.specs.Compose.{compose_of}
 use Rattle.composer.specs.Form.{intro_bars_of, outro_bars_of}
 use Rattle.composer.specs.Form.Ends.{end_code_of, outro_code_of}
-use Rattle.composer.specs.Form.Plays.{bits_of, silent}
+use Rattle.composer.specs.Form.Plays.{bits_of}
 use Rattle.composer.specs.Form.Song.{arrange_of}
-use Rattle.composer.specs.Note.{kind_number_of, past_note, past_hit}
-use Rattle.composer.specs.Plain.{PlainNote, PlainHit}
+use Rattle.composer.specs.Note.{kind_number_of}
 use Rattle.composer.specs.Voice.{voice_number_of}
 use Rattle.composer.specs.declared.chord.Chord.{Chord}
 use Rattle.composer.specs.declared.form.Form.{Form}
+use Rattle.composer.specs.declared.form.plays.Plays.{Plays}
 use Rattle.composer.specs.declared.harmony.Scale.{Scale}
 use Rattle.composer.specs.declared.note.Hit.{Hit}
 use Rattle.composer.specs.declared.note.Note.{Note}
@@ -21,32 +19,25 @@ use Rattle.composer.specs.declared.refusal.Outcome.{Outcome}
 use Rattle.composer.specs.declared.score.Score.{Score}
 use Rattle.probe.specs.Draws.{flag_of}
 
--- ---- lanes: the first n events
+-- ---- lanes
 abbrev pub note_sum : Note → ℕ
 note_sum n = n.bar + to_bits binary32 n.at + n.midi + to_bits binary32 n.vel + to_bits binary32 n.dur
 
 abbrev pub hit_sum : Hit → ℕ
 hit_sum h = h.bar + kind_number_of h.kind + to_bits binary32 h.at + to_bits binary32 h.gain
 
-abbrev pub notes_sum : List Note → ℕ → ℕ
-notes_sum notes n = sum_to (λ i. note_sum (get_or notes i past_note)) n
+abbrev pub notes_sum : List Note → ℕ
+notes_sum notes = sum (map note_sum notes)
 
-abbrev pub hits_sum : List Hit → ℕ → ℕ
-hits_sum hits n = sum_to (λ i. hit_sum (get_or hits i past_hit)) n
-
--- what they ask: each of these events has plain floats
-abbrev pub PlainNotes : List Note → ℕ → Type 0
-PlainNotes notes n = (i : ℕ) → i < n → PlainNote (get_or notes i past_note)
-
-abbrev pub PlainHits : List Hit → ℕ → Type 0
-PlainHits hits n = (i : ℕ) → i < n → PlainHit (get_or hits i past_hit)
+abbrev pub hits_sum : List Hit → ℕ
+hits_sum hits = sum (map hit_sum hits)
 
 -- ---- harmony
 abbrev pub chord_sum : Chord → ℕ
 chord_sum c = get_or c.notes 0 0 + get_or c.notes 1 0 + get_or c.notes 2 0 + get_or c.notes 3 0
 
 abbrev pub chords_sum : List Chord → ℕ
-chords_sum bars = sum_to (λ b. chord_sum (get_or bars b past_chord)) 8
+chords_sum bars = sum (map chord_sum bars)
 
 -- places past the scale's classes are 0
 abbrev pub scale_sum : Scale → ℕ
@@ -57,17 +48,17 @@ scale_sum s =
 abbrev pub ends_sum : Form → ℕ
 ends_sum f = end_code_of f.intro + intro_bars_of f + f.phrases + outro_code_of f.outro + outro_bars_of f + flag_of f.dip
 
-abbrev pub plays_sum : Form → ℕ
-plays_sum f = sum_to (λ b. bits_of (get_or f.plays b silent)) f.bars
+abbrev pub bits_sum : List Plays → ℕ
+bits_sum plays = sum (map bits_of plays)
 
--- ---- the whole
+-- ---- the whole: of each lane its events, and of the form its bars
 abbrev pub score_sum : Score → Scale → ℕ
 score_sum s scale =
     to_bits binary32 s.bpm + voice_number_of s.lead_voice + (chords_sum s.bar_chords + scale_sum scale)
-    + (notes_sum s.lead s.lead_count + notes_sum s.keys s.keys_count + hits_sum s.hits s.hit_count + notes_sum s.bass s.bass_count)
+    + (notes_sum (take s.lead_count s.lead) + notes_sum (take s.keys_count s.keys) + hits_sum (take s.hit_count s.hits) + notes_sum (take s.bass_count s.bass))
 
 abbrev pub form_sum : Form → ℕ
-form_sum f = ends_sum f + plays_sum f
+form_sum f = ends_sum f + bits_sum (take f.bars f.plays)
 
 -- nothing of a song that is refused
 abbrev pub sum_by : Outcome → ℕ → ℕ

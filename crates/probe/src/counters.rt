@@ -16,12 +16,7 @@ fn put_counters(c: Counters, out: &mut [u64]) -> i64
     if out.len() < 7 {
         return minus_number(Refusal::ShortBuffer);
     }
-    let words = counts(c);
-    let mut i: usize = 0;
-    while i < 7 {
-        out[i] = words[i];
-        i += 1;
-    }
+    out[..7].copy_from_slice(&counts(c));
     7
 }
 

@@ -80,12 +80,10 @@ fn fill(kind: Kind, seed: u64, counter: u64, out: &mut [u64]) -> u64
         seed: seed,
         counter: counter,
     };
-    let mut i: usize = 0;
-    while i < out.len() {
+    for place in out.iter_mut() {
         let d = drawn(kind, s);
-        out[i] = d.value;
+        *place = d.value;
         s = d.stream;
-        i += 1;
     }
     s.counter
 }

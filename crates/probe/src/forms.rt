@@ -1,12 +1,11 @@
 // Forms in numbers: of a seed, and of parts that no draw need give.
-ghost use Rattle.std.specs.Prelude.{false, ◌≡◌, ◌+◌, ◌^◌, ◌≤◌, ◌<◌, pos, neg_ℤ};
+ghost use Rattle.std.specs.Prelude.{false, ◌≡◌, ◌+◌, ◌≤◌, length, pos, neg_ℤ};
 ghost use Rattle.composer.specs.Form.Ask.{plays_of};
 ghost use Rattle.composer.specs.Form.Song.{arrange_of};
 ghost use Rattle.composer.specs.Form.Spans.{spans_of, spans_number_of};
 ghost use Rattle.composer.specs.Refusal.{number_of};
-ghost use Rattle.probe.specs.Forms.{bars_word_of, four_of, head_of, form_word_of, counter_of, outcome_number_of, beatless_word_of, plays_number_of, end_by, outro_by, made_of};
+ghost use Rattle.probe.specs.Forms.{bars_word_of, head_of, form_word_of, counter_of, outcome_number_of, beatless_word_of, plays_number_of, end_by, outro_by, made_of};
 
-use crate::draws::flag;
 use composer::form::Form;
 use composer::form::ask::{PlaysAnswer, beatless, plays};
 use composer::form::decisions::decide;
@@ -18,43 +17,39 @@ use composer::refusal::{Outcome, Refusal};
 use streams::stage::Stage;
 
 // 16 bars from `from` on, four bits each, the first bar highest.
-fn bars_word(plays: [Plays; 64], from: usize) -> u64
-    requires { from + 16 ≤ 64 }
-    ensures { result ≡ bars_word_of plays from 16 }
+#[tactic(auto, unfolding(crate::specs::Forms::bars_word_of))]
+fn bars_word(plays: &[Plays], from: usize) -> u64
+    requires { from + 16 ≤ length plays.now }
+    ensures { result ≡ bars_word_of plays.now from 16 }
 {
     let mut w: u64 = 0;
-    let mut i: usize = 0;
-    while i < 16 {
-        let p = plays[from + i];
+    for p in &plays[from..from + 16] {
         w = w * 16 + p.bits() as u64;
-        i += 1;
     }
     w
 }
 
-// Four bytes in one number, the first highest.
-fn four(a: u8, b: u8, c: u8, d: u8) -> u64
-    ensures value { result ≡ four_of a b c d }
-    ensures upper_bound { result < 2 ^ 32 }
+// The form's numbers, a byte each.
+#[tactic(auto, unfolding(crate::specs::Forms::head_of))]
+fn head(f: &Form) -> u64
+    ensures { result ≡ head_of f.now }
 {
-    ((a as u64 * 256 + b as u64) * 256 + c as u64) * 256 + d as u64
-}
-
-// The form's numbers.
-fn head(f: Form) -> u64
-    ensures { result ≡ head_of f }
-{
-    let intro = f.intro;
-    let outro = f.outro;
-    let dip = flag(f.dip) as u8;
-    let high = four(intro.code(), f.intro_bars(), f.phrases, outro.code());
-    let low = four(f.outro_bars(), dip, f.bars, f.lead_in());
-    high * 0x1_0000_0000 + low
+    u64::from_be_bytes([
+        f.intro.code(),
+        f.intro_bars(),
+        f.phrases,
+        f.outro.code(),
+        f.outro_bars(),
+        u8::from(f.dip),
+        f.bars,
+        f.lead_in(),
+    ])
 }
 
 // Word k of the form.
-fn word(f: Form, k: u8) -> u64
-    ensures { result ≡ form_word_of f k }
+#[tactic(auto, unfolding(crate::specs::Forms::form_word_of))]
+fn word(f: &Form, k: u8) -> u64
+    ensures { result ≡ form_word_of f.now k }
 {
     if k == 0 {
         return head(f);
@@ -62,8 +57,7 @@ fn word(f: Form, k: u8) -> u64
     if k > 4 {
         return 0;
     }
-    let plays = f.plays;
-    bars_word(plays, 16 * (k as usize - 1))
+    bars_word(&f.plays, 16 * (k as usize - 1))
 }
 
 // The number of the refusal, 0 for none.
@@ -85,8 +79,7 @@ fn beatless_word(f: Form, k: u8) -> u64
         let o = a.outcome;
         return outcome_number(o);
     }
-    let form = a.form;
-    word(form, k)
+    word(&a.form, k)
 }
 
 // Minus the number of the refusal.
@@ -118,10 +111,11 @@ const ENDS: [End; 7] = [
 ];
 
 // The end by its number; a number of none is cold.
+#[tactic(auto, unfolding(crate::specs::Forms::end_by))]
 fn end_by(n: u8) -> End
     ensures { result ≡ end_by n }
 {
-    if n < 7 { ENDS[n as usize] } else { End::Cold }
+    ENDS.get(n as usize).copied().unwrap_or(End::Cold)
 }
 
 // The outro by its number: 7 rings out.
@@ -136,6 +130,7 @@ fn outro_by(n: u8) -> Outro
 }
 
 // The seed's form with other parts.
+#[tactic(auto, unfolding(crate::specs::Forms::made_of))]
 fn made(seed: u64, intro: u8, phrases: u8, outro: u8, dip: bool, bars: u8) -> Form
     ensures { result ≡ made_of seed intro phrases outro dip bars }
 {
@@ -157,8 +152,7 @@ fn made(seed: u64, intro: u8, phrases: u8, outro: u8, dip: bool, bars: u8) -> Fo
 pub fn probe_form(seed: u64, k: u8) -> u64
     ensures { result ≡ form_word_of (arrange_of seed) k }
 {
-    let f = arrange(seed);
-    word(f, k)
+    word(&arrange(seed), k)
 }
 
 // The same without a beat; word 5 is the number of the refusal, 0 for none.

@@ -11,7 +11,7 @@ ghost use Rattle.probe.specs.Kicks.{kicks_word_of, kind_by, hit_by, score_by};
 use crate::forms::outcome_number;
 use composer::compose::compose;
 use composer::kicks::{KicksAnswer, kicks};
-use composer::note::{DrumKind, Hit, NO_HIT};
+use composer::note::{DrumKind, Hit};
 use composer::score::Score;
 use streams::float::bits_of;
 
@@ -36,10 +36,8 @@ fn kicks_word(a: KicksAnswer, k: usize) -> u64
 fn fill(a: KicksAnswer, out: &mut [u64])
     ensures { out.new ≡ list_to (kicks_word_of a) (length out.old) }
 {
-    let mut i: usize = 0;
-    while i < out.len() {
-        out[i] = kicks_word(a, i);
-        i += 1;
+    for (i, place) in out.iter_mut().enumerate() {
+        *place = kicks_word(a, i);
     }
 }
 
@@ -47,7 +45,7 @@ fn fill(a: KicksAnswer, out: &mut [u64])
 fn word_at(words: &[u64], k: usize) -> u64
     ensures { result ≡ get_or words.now k 0 }
 {
-    if k < words.len() { words[k] } else { 0 }
+    words.get(k).copied().unwrap_or(0)
 }
 
 // The float of any bits; every NaN's bits give a NaN.
@@ -70,17 +68,15 @@ const KINDS: [DrumKind; 4] = [
 ];
 
 // The drum by its number; a number of none is a kick.
+#[tactic(auto, unfolding(crate::specs::Kicks::kind_by))]
 fn kind_by(n: u64) -> DrumKind
     ensures { result ≡ kind_by n }
 {
-    if n < 4 {
-        KINDS[n as usize]
-    } else {
-        DrumKind::Kick
-    }
+    KINDS.get(n as usize).copied().unwrap_or(DrumKind::Kick)
 }
 
 // Hit i of the words: the bits of its time, then its drum.
+#[tactic(auto, unfolding(crate::specs::Kicks::hit_by))]
 fn hit_by(words: &[u64], i: usize) -> Hit
     requires { i < 98 }
     ensures { result ≡ hit_by words.now i }
@@ -101,16 +97,11 @@ fn hit_by(words: &[u64], i: usize) -> Hit
 fn hits_by(words: &[u64]) -> [Hit; 98]
     ensures { result ≡ list_to (hit_by words.now) 98 }
 {
-    let mut out = [NO_HIT; 98];
-    let mut i: usize = 0;
-    while i < 98 {
-        out[i] = hit_by(words, i);
-        i += 1;
-    }
-    out
+    std::array::from_fn(|i| hit_by(words, i))
 }
 
 // A song's score with the hits that the words say: their count, then 98 hits.
+#[tactic(auto, unfolding(crate::specs::Kicks::score_by))]
 fn score_by(words: &[u64]) -> Score
     ensures { result ≡ score_by words.now }
 {

@@ -45,9 +45,9 @@ pub fn counts(c: Counters) -> [u64; 7]
 }
 
 // How many classes the scale has, then its six places.
-fn scale_word(s: Scale, k: usize) -> u64
+fn scale_word(s: &Scale, k: usize) -> u64
     requires { k < 7 }
-    ensures { result ≡ scale_word_of s k }
+    ensures { result ≡ scale_word_of s.now k }
 {
     if k == 0 {
         return s.n as u64;
@@ -56,106 +56,92 @@ fn scale_word(s: Scale, k: usize) -> u64
 }
 
 // The root's class, then the four notes.
-fn chord_word(c: Chord, k: usize) -> u64
+fn chord_word(c: &Chord, k: usize) -> u64
     requires { k < 5 }
-    ensures { result ≡ chord_word_of c k }
+    ensures { result ≡ chord_word_of c.now k }
 {
     if k == 0 {
-        let root = c.root_class();
-        return root as u64;
+        return c.root_class() as u64;
     }
     c.notes[k - 1] as u64
 }
 
-fn note_words(n: Note) -> [u64; 5]
-    ensures { result ≡ note_words_of n }
+fn note_words(n: &Note) -> [u64; 5]
+    ensures { result ≡ note_words_of n.now }
 {
-    let at = bits_of(n.at);
-    let vel = bits_of(n.vel);
-    let dur = bits_of(n.dur);
     [
         n.bar as u64,
-        at as u64,
+        bits_of(n.at) as u64,
         n.midi as u64,
-        vel as u64,
-        dur as u64,
+        bits_of(n.vel) as u64,
+        bits_of(n.dur) as u64,
     ]
 }
 
-fn hit_words(h: Hit) -> [u64; 4]
-    ensures { result ≡ hit_words_of h }
+fn hit_words(h: &Hit) -> [u64; 4]
+    ensures { result ≡ hit_words_of h.now }
 {
-    let at = bits_of(h.at);
-    let kind = h.kind;
-    let kind_no = kind.number();
-    let gain = bits_of(h.gain);
-    [h.bar as u64, at as u64, kind_no as u64, gain as u64]
+    [
+        h.bar as u64,
+        bits_of(h.at) as u64,
+        h.kind.number() as u64,
+        bits_of(h.gain) as u64,
+    ]
 }
 
 // A word before the lanes.
-fn head_word(song: Composed, k: usize) -> u64
+#[tactic(auto, unfolding(crate::specs::Scores::head_word_of))]
+fn head_word(song: &Composed, k: usize) -> u64
     requires { k < 62 }
-    ensures { result ≡ head_word_of song k }
+    ensures { result ≡ head_word_of song.now k }
 {
-    let score = song.score;
     if k < 8 {
-        let outcome = song.outcome;
-        let words = numbers(outcome, score);
-        return words[k];
+        return numbers(song.outcome, song.score)[k];
     }
     if k < 15 {
-        let counters = song.counters;
-        let words = counts(counters);
-        return words[k - 8];
+        return counts(song.counters)[k - 8];
     }
     if k < 22 {
-        let scale = song.scale;
-        return scale_word(scale, k - 15);
+        return scale_word(&song.scale, k - 15);
     }
-    let chord = score.bar_chords[(k - 22) / 5];
-    chord_word(chord, (k - 22) % 5)
+    chord_word(&song.score.bar_chords[(k - 22) / 5], (k - 22) % 5)
 }
 
 // A word of the lanes: the lead's, the keys', the drums', the bass's.
-fn lane_word(s: Score, k: usize) -> u64
-    ensures { result ≡ lane_word_of s k }
+#[tactic(auto, unfolding(crate::specs::Scores::lane_word_of))]
+fn lane_word(s: &Score, k: usize) -> u64
+    ensures { result ≡ lane_word_of s.now k }
 {
     if k < 280 {
-        let words = note_words(s.lead[k / 5]);
-        return words[k % 5];
+        return note_words(&s.lead[k / 5])[k % 5];
     }
     if k < 920 {
-        let words = note_words(s.keys[(k - 280) / 5]);
-        return words[(k - 280) % 5];
+        return note_words(&s.keys[(k - 280) / 5])[(k - 280) % 5];
     }
     if k < 1312 {
-        let words = hit_words(s.hits[(k - 920) / 4]);
-        return words[(k - 920) % 4];
+        return hit_words(&s.hits[(k - 920) / 4])[(k - 920) % 4];
     }
     if k < 1832 {
-        let words = note_words(s.bass[(k - 1312) / 5]);
-        return words[(k - 1312) % 5];
+        return note_words(&s.bass[(k - 1312) / 5])[(k - 1312) % 5];
     }
     0
 }
 
-fn word(song: Composed, k: usize) -> u64
-    ensures { result ≡ word_of song k }
+#[tactic(auto, unfolding(crate::specs::Scores::word_of))]
+fn word(song: &Composed, k: usize) -> u64
+    ensures { result ≡ word_of song.now k }
 {
     if k < 62 {
         return head_word(song, k);
     }
-    let score = song.score;
-    lane_word(score, k - 62)
+    lane_word(&song.score, k - 62)
 }
 
-fn fill(song: Composed, out: &mut [u64])
-    ensures { out.new ≡ list_to (word_of song) (length out.old) }
+fn fill(song: &Composed, out: &mut [u64])
+    ensures { out.new ≡ list_to (word_of song.now) (length out.old) }
 {
-    let mut i: usize = 0;
-    while i < out.len() {
-        out[i] = word(song, i);
-        i += 1;
+    for (i, place) in out.iter_mut().enumerate() {
+        *place = word(song, i);
     }
 }
 
@@ -163,18 +149,14 @@ fn fill(song: Composed, out: &mut [u64])
 pub fn probe_score(style: u8, seed: u64, out: &mut [u64])
     ensures { out.new ≡ list_to (word_of (compose_of style seed)) (length out.old) }
 {
-    let song = compose(style, seed);
-    fill(song, out);
+    fill(&compose(style, seed), out);
 }
 
 // The same without its drums.
 pub fn probe_unbeaten(style: u8, seed: u64, out: &mut [u64])
     ensures { out.new ≡ list_to (word_of (unbeaten_song (compose_of style seed))) (length out.old) }
 {
-    let song = compose(style, seed);
-    let score = song.score;
-    let rest = unbeaten(score);
-    let mut t = song;
-    t.score = rest;
-    fill(t, out);
+    let mut song = compose(style, seed);
+    song.score = unbeaten(song.score);
+    fill(&song, out);
 }

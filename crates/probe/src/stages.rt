@@ -4,33 +4,21 @@ ghost use Rattle.probe.specs.Stages.{stage_of, seed_answer, seed_buffer};
 
 use streams::stage::Stage;
 
-#[derive(Clone, Copy)]
-pub enum StageAnswer {
-    Unknown,
-    Known(Stage),
-}
-
-// The stages in the order of their numbers.
-const STAGES: [StageAnswer; 9] = [
-    StageAnswer::Unknown,
-    StageAnswer::Known(Stage::Form),
-    StageAnswer::Known(Stage::Harmony),
-    StageAnswer::Known(Stage::Tempo),
-    StageAnswer::Known(Stage::Lead),
-    StageAnswer::Known(Stage::Keys),
-    StageAnswer::Known(Stage::Drums),
-    StageAnswer::Known(Stage::Bass),
-    StageAnswer::Known(Stage::LeadVoice),
-];
-
 // The stage by its number, 1 to 8.
-fn stage_by(n: u8) -> StageAnswer
+#[tactic(auto, unfolding(crate::specs::Stages::stage_of))]
+fn stage_by(n: u8) -> Option<Stage>
     ensures { result ≡ stage_of n }
 {
-    if n < 9 {
-        STAGES[n as usize]
-    } else {
-        StageAnswer::Unknown
+    match n {
+        1 => Some(Stage::Form),
+        2 => Some(Stage::Harmony),
+        3 => Some(Stage::Tempo),
+        4 => Some(Stage::Lead),
+        5 => Some(Stage::Keys),
+        6 => Some(Stage::Drums),
+        7 => Some(Stage::Bass),
+        8 => Some(Stage::LeadVoice),
+        _ => None,
     }
 }
 
@@ -40,14 +28,12 @@ pub fn probe_stage_seed(stage: u8, seed: u64, out: &mut [u64]) -> i64
     ensures value { result ≡ seed_answer stage out.old }
     ensures out_after { out.new ≡ seed_buffer stage seed out.old }
 {
-    let known = stage_by(stage);
-    let StageAnswer::Known(st) = known else {
+    let Some(st) = stage_by(stage) else {
         return -16;
     };
-    if out.len() == 0 {
+    let Some(place) = out.first_mut() else {
         return -2;
-    }
-    let s = st.stream(seed);
-    out[0] = s.seed;
+    };
+    *place = st.stream(seed).seed;
     1
 }

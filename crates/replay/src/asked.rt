@@ -55,7 +55,7 @@ fn coin(seed: u64) -> u64 {
 fn song_word(style: u8, seed: u64, k: u64) -> u64 {
     let mut out = [0u64; 15];
     probe_score(style, seed, &mut out);
-    if k < 15 { out[k as usize] } else { u64::MAX }
+    out.get(k as usize).copied().unwrap_or(u64::MAX)
 }
 
 // FNV-1a over whole words: the fold of none, and with one word more.
@@ -66,13 +66,7 @@ fn stirred(h: u64, word: u64) -> u64 {
 }
 
 fn fold(words: &[u64]) -> u64 {
-    let mut h = NONE;
-    let mut i: usize = 0;
-    while i < words.len() {
-        h = stirred(h, words[i]);
-        i += 1;
-    }
-    h
+    words.iter().fold(NONE, |h, w| stirred(h, *w))
 }
 
 fn song_fold(style: u8, seed: u64) -> u64 {
@@ -103,19 +97,9 @@ fn folded(style: u8, seed: u64, what: u64) -> u64 {
     }
 }
 
-fn wide(byte: u8) -> u64 {
-    byte as u64
-}
-
 // The fold with bytes more, each a word.
 fn byte_fold(before: u64, bytes: &[u8]) -> u64 {
-    let mut h = before;
-    let mut i: usize = 0;
-    while i < bytes.len() {
-        h = stirred(h, wide(bytes[i]));
-        i += 1;
-    }
-    h
+    bytes.iter().fold(before, |h, b| stirred(h, u64::from(*b)))
 }
 
 // A fold of the length of what was written and of the whole buffer, or the number of the refusal.
@@ -159,13 +143,6 @@ fn spoil(sheet: &mut [u8], place: u64, byte: u8) {
     if 0 < place && place - 1 < sheet.len() as u64 {
         sheet[(place - 1) as usize] = byte;
     }
-}
-
-// The smaller one.
-fn lesser(a: usize, b: usize) -> usize
-    ensures { (result ≤ a) × (result ≤ b) }
-{
-    if a < b { a } else { b }
 }
 
 // A fold of what is read and written again, by the call that makes no song.
@@ -213,8 +190,8 @@ fn put_spoiled(buf: &mut [u8], seed: u64, how: u64) -> usize
     let edition = edition_of(how);
     let written = sheet_in(edition, (how % 2) as u8, seed, buf);
     spoil(buf, how / 65536 % 65536, (how / 256 % 256) as u8);
-    let kept = lesser(written.count(), (65535 - how / 4294967296 % 65536) as usize);
-    lesser(kept, buf.len())
+    let kept = (65535 - how / 4294967296 % 65536) as usize;
+    written.count().min(kept).min(buf.len())
 }
 
 // A fold of what is read of a spoiled sheet and written again.

@@ -11,23 +11,17 @@ pub struct Line {
 
 // The byte at i, 0 past the end.
 fn byte(s: &[u8], i: usize) -> u8 {
-    if i < s.len() { s[i] } else { 0 }
+    s.get(i).copied().unwrap_or(0)
 }
 
 // A digit's value; 0 for any other byte.
-fn digit(c: u8) -> u64
+fn digit(c: u8) -> u8
     ensures { result < 16 }
 {
-    if c < 48 {
-        0
-    } else if c < 58 {
-        (c - 48) as u64
-    } else if c < 97 {
-        0
-    } else if c < 103 {
-        (c - 87) as u64
-    } else {
-        0
+    match c {
+        b'0'..=b'9' => c - b'0',
+        b'a'..=b'f' => c - b'a' + 10,
+        _ => 0,
     }
 }
 
@@ -36,10 +30,8 @@ fn word(s: &[u8], at: usize) -> u64
     requires { at < 64 }
 {
     let mut w: u64 = 0;
-    let mut i: usize = 0;
-    while i < 16 {
-        w = w % 0x1000_0000_0000_0000 * 16 + digit(byte(s, at + i));
-        i += 1;
+    for i in at..at + 16 {
+        w = w % 0x1000_0000_0000_0000 * 16 + digit(byte(s, i)) as u64;
     }
     w
 }

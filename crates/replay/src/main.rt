@@ -11,28 +11,21 @@ use std::{fs, io};
 mod asked;
 mod line;
 
-// What became of a line.
-#[derive(Clone, Copy)]
-enum Outcome {
-    End,
-    Agrees,
-    Differs,
-}
-
-// Reads a line and asks it. A line that is cut off differs. A read that fails counts as the end of the file.
-fn ask_next<R: Read>(rt: &impl Print, file: &mut R) -> io::Result<Outcome> {
+// Reads a line and asks it: whether the two answers agree, or `None` at the file's end. A line that is cut off differs.
+// A read that fails counts as the end of the file.
+fn ask_next<R: Read>(rt: &impl Print, file: &mut R) -> io::Result<Option<bool>> {
     let mut text = [0u8; 53];
     let (n, _) = read_full(file, &mut text);
     if n == 0 {
-        return Ok(Outcome::End);
+        return Ok(None);
     }
     let l = line::parsed(&text[..n]);
     let answer = asked::answer(l.what, l.a, l.b);
-    if n == 53 && answer == l.answer {
-        return Ok(Outcome::Agrees);
+    let agrees = n == 53 && answer == l.answer;
+    if !agrees {
+        rt.write_all(&text[..n])?;
     }
-    rt.write_all(&text[..n])?;
-    Ok(Outcome::Differs)
+    Ok(Some(agrees))
 }
 
 #[derive(Clone, Copy)]
@@ -41,28 +34,18 @@ struct Count {
     agree: u64,
 }
 
-// All lines of a file. A proved loop has to end, and nothing says that a file does, so the turns are
-// counted up to a number that no file here reaches.
+// All lines of a file. A proved loop has to end, and nothing says that a file does, so there are more turns than any
+// file here has lines.
 fn counted<R: Read>(rt: &impl Print, file: &mut R) -> io::Result<Count> {
-    let mut lines: u64 = 0;
-    let mut agree: u64 = 0;
-    while lines < 1000000 {
-        let t = ask_next(rt, file)?;
-        match t {
-            Outcome::End => {
-                break;
-            }
-            Outcome::Agrees => {
-                agree += 1;
-            }
-            Outcome::Differs => {}
-        }
-        lines += 1;
+    let mut count = Count { lines: 0, agree: 0 };
+    for _ in 0..1000000u64 {
+        let Some(agrees) = ask_next(rt, file)? else {
+            break;
+        };
+        count.lines += 1;
+        count.agree += u64::from(agrees);
     }
-    Ok(Count {
-        lines: lines,
-        agree: agree,
-    })
+    Ok(count)
 }
 
 fn replay<R: Files + Print + Eprint>(rt: &R, name: &str) -> io::Result<()> {

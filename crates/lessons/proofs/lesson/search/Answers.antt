@@ -9,11 +9,7 @@ use Rattle.lessons.proofs.SuitLaws.{suits_told, suits_not}
 use Rattle.lessons.proofs.lesson.search.Goals as goal
 
 pub loop-i-init : goal.loop-i-init
-loop-i-init c =
-    (omega arith, none_at_first (SuitsIn c.args.style c.args.wishes) c.args.start)
-
-pub overflow_add-seed : goal.overflow_add-seed
-overflow_add-seed c = omega (arith, c.requires)
+loop-i-init c = none_at_first (SuitsIn c.args.style c.args.wishes) c.args.start
 
 pub returns-then-suits : goal.returns-then-suits
 returns-then-suits c =
@@ -22,10 +18,10 @@ returns-then-suits c =
 pub loop-i-preserved : goal.loop-i-preserved
 loop-i-preserved c =
     let l = c.loop-i in
-    (omega arith, none_more (SuitsIn c.args.style c.args.wishes) c.args.start l.i l.invariant.1 (suits_not c.args.style c.args.wishes _ (omega arith) (sym c.suits.ensures ∙ c.if-suits.false)))
+    none_more (SuitsIn c.args.style c.args.wishes) c.args.start l.i l.invariant (suits_not c.args.style c.args.wishes _ (omega arith) (sym c.suits.ensures ∙ c.if-suits.false))
 
 pub returns : goal.returns
 returns c =
     let l = c.loop-i in
     let e : l.i ≡ c.args.count = omega arith in
-    (refl, subst (λ (n : ℕ). NoneFits (SuitsIn c.args.style c.args.wishes) c.args.start n) e l.invariant.1)
+    (refl, subst (λ (n : ℕ). NoneFits (SuitsIn c.args.style c.args.wishes) c.args.start n) e l.invariant)

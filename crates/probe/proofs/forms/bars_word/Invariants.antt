@@ -1,11 +1,7 @@
--- After i turns the word has the first i bars, and there is room for one more. Assumes nothing.
-use mathlib.Core.Path.{◌≡◌}
-use Prim.Native.Nat.{◌-◌, ◌≤◌}
+-- The word has the bars before the index, and room for one more. Assumes nothing.
+use Rattle.std.proofs.Common.{◌≡◌}
 use Rattle.probe.specs.Forms.{bars_word_of}
 use Rattle.probe.proofs.forms.bars_word.Given as goal
 
-abbrev pub invariant-loop-i : goal.invariant-loop-i
-invariant-loop-i l = (l.i ≤ 16) × (l.w ≡ bars_word_of l.plays l.from l.i)
-
-abbrev pub decreases-loop-i : goal.decreases-loop-i
-decreases-loop-i l = 16 - l.i
+abbrev pub invariant-loop-p : goal.invariant-loop-p
+invariant-loop-p l = l.w ≡ bars_word_of l.plays l.from l.p-index

@@ -1,23 +1,8 @@
--- After i turns the first i words stand in the first i places. Assumes nothing.
-use mathlib.Core.Path.{◌≡◌, refl, sym, ◌∙◌}
-use native.Mathlib.Omega.{arith}
-use lib.ListN.{length}
-use Rattle.laws.proofs.Lists.{fill_none, fill_on, fill_all}
+-- At the end every place has its word. Assumes nothing.
+use Rattle.std.proofs.Common.{length, arith, rules}
 use Rattle.probe.specs.Kicks.{kicks_word_of}
-use borrow.Author.Rules.{rules}
+use Rattle.probe.proofs.FillLaws.{filled}
 use Rattle.probe.proofs.kicks.fill.Goals as goal
 
-pub loop-i-init : goal.loop-i-init
-loop-i-init c =
-    (omega arith, refl, sym (fill_none (kicks_word_of c.args.a) c.args.out.now))
-
-pub loop-i-preserved : goal.loop-i-preserved
-loop-i-preserved c =
-    let l = c.loop-i in
-    (search rules, search rules, rw (l.invariant.2, c.kicks_word.ensures) (fill_on (kicks_word_of c.args.a) c.args.out.now l.i (omega arith)))
-
 pub returns : goal.returns
-returns c =
-    let l = c.loop-i in
-    let e : l.i ≡ length c.args.out.now = omega arith in
-    (rw e at l.invariant.2) ∙ fill_all (kicks_word_of c.args.a) c.args.out.now
+returns c = filled (kicks_word_of c.args.a) 0 c.loop-i.out (length c.args.out.now) (search rules) (λ k h. c.loop-i.invariant k (omega arith))

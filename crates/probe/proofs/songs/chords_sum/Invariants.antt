@@ -1,14 +1,7 @@
--- After b turns the sum has the first b chords. Assumes nothing.
-use mathlib.Core.Path.{◌≡◌}
-use Prim.Native.Nat.{ℕ, ◌-◌, ◌*◌, ◌≤◌}
-use lib.ListN.{get_or}
-use Rattle.laws.specs.Sums.{sum_to}
-use Rattle.composer.specs.Chord.{past_chord}
-use Rattle.probe.specs.Songs.{chord_sum}
+-- The sum so far has the chords, each below 2^10, before the index. Assumes nothing.
+use Rattle.std.proofs.Common.{◌≡◌, ◌*◌, ◌^◌, ◌≤◌, take}
+use Rattle.probe.specs.Songs.{chords_sum}
 use Rattle.probe.proofs.songs.chords_sum.Given as goal
 
-abbrev pub invariant-loop-b : goal.invariant-loop-b
-invariant-loop-b l = (l.b ≤ 8) × (l.w ≤ 1024 * l.b) × (l.w ≡ sum_to (λ (k : ℕ). chord_sum (get_or l.bars k past_chord)) l.b)
-
-abbrev pub decreases-loop-b : goal.decreases-loop-b
-decreases-loop-b l = 8 - l.b
+abbrev pub invariant-loop-c : goal.invariant-loop-c
+invariant-loop-c l = (l.w ≤ 2 ^ 10 * l.c-index) × (l.w ≡ chords_sum (take l.c-index l.bars))

@@ -1,5 +1,0 @@
--- The word is that of the seed's form. Assumes nothing.
-use Rattle.probe.proofs.forms.probe_beatless.Goals as goal
-
-pub returns : goal.returns
-returns c = rw (c.beatless_word.ensures, c.arrange-f.ensures)
