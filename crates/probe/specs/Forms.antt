@@ -1,5 +1,6 @@
 -- Forms in numbers. Definitions only.
 use Rattle.std.specs.Prelude.{Bool, cond, List, [], ◌∷◌, ℕ, zero, suc, ◌+◌, ◌-◌, ◌*◌, ◌^◌, eqb, leb, ℤ, pos, neg_ℤ, get_or, Result, Ok, Err}
+use Rattle.std.specs.Result.{result_unwrap_or}
 use Rattle.streams.specs.Stage.{stream_of}
 use Rattle.streams.specs.declared.stage.Stage.{Stage}
 use Rattle.composer.specs.Refusal.{number_of}
@@ -9,7 +10,6 @@ use Rattle.composer.specs.Form.Decisions.{decide_of}
 use Rattle.composer.specs.Form.Ends.{end_code_of, outro_code_of}
 use Rattle.composer.specs.Form.Plays.{bits_of, silent}
 use Rattle.composer.specs.Form.Song.{arrange_of}
-use Rattle.composer.specs.declared.refusal.Outcome.{Outcome}
 use Rattle.composer.specs.declared.form.Form.{Form}
 use Rattle.composer.specs.declared.form.ends.Bars.{Bars}
 use Rattle.composer.specs.declared.form.ends.Edge.{Edge}
@@ -40,12 +40,13 @@ form_word_of f k = cond (eqb k 0) (head_of f) (cond (leb k 4) (bars_word_of f.pl
 
 -- ---- answers
 -- the number of the refusal, 0 for none
-abbrev pub outcome_number_of : Outcome → ℕ
-outcome_number_of Outcome.Done = 0
-outcome_number_of (Outcome.Refused r) = number_of r
+abbrev pub outcome_number_of : {A : Type 0} → Result A Refusal → ℕ
+outcome_number_of (Ok x) = 0
+outcome_number_of (Err r) = number_of r
 
+-- a form that is refused has its own words
 unfoldable pub beatless_word_of : Form → ℕ → ℕ
-beatless_word_of f k = cond (eqb k 5) (outcome_number_of (beatless_of f).outcome) (form_word_of (beatless_of f).form k)
+beatless_word_of f k = cond (eqb k 5) (outcome_number_of (beatless_of f)) (form_word_of (result_unwrap_or (beatless_of f) f) k)
 
 -- the bar's layers, or minus the number of the refusal
 abbrev pub plays_number_of : Result Plays Refusal → ℤ

@@ -1,8 +1,10 @@
 -- Scores in words. Definitions only.
-use Rattle.std.specs.Prelude.{cond, List, [], ◌∷◌, ℕ, ◌-◌, ◌/◌, ◌%◌, eqb, ltb, get_or}
+use Rattle.std.specs.Prelude.{cond, List, [], ◌∷◌, ℕ, ◌-◌, ◌/◌, ◌%◌, eqb, ltb, get_or, replicate, Result, Ok, Err}
+use Rattle.std.specs.Result.{result_unwrap_or}
 use Rattle.std.specs.Float.{binary32}
 use Rattle.std.specs.Float.Ieee.{to_bits}
 use Rattle.composer.specs.Chord.{root_class_of, past_chord}
+use Rattle.composer.specs.Compose.{no_score}
 use Rattle.composer.specs.Kicks.{unbeaten_of}
 use Rattle.composer.specs.Note.{kind_number_of, past_note, past_hit}
 use Rattle.composer.specs.Style.{style_number_of}
@@ -12,16 +14,27 @@ use Rattle.composer.specs.declared.compose.Composed.{Composed}
 use Rattle.composer.specs.declared.harmony.Scale.{Scale}
 use Rattle.composer.specs.declared.note.Hit.{Hit}
 use Rattle.composer.specs.declared.note.Note.{Note}
-use Rattle.composer.specs.declared.refusal.Outcome.{Outcome}
+use Rattle.composer.specs.declared.refusal.Refusal.{Refusal}
 use Rattle.composer.specs.declared.score.Counters.{Counters}
 use Rattle.composer.specs.declared.score.Score.{Score}
 use Rattle.probe.specs.Forms.{outcome_number_of}
 
+-- what is told of a song that is refused: zero throughout
+abbrev pub no_song : Composed
+no_song = record {
+  score = no_score;
+  scale = record { pcs = replicate 6 0; n = 0 };
+  counters = record { harmony = 0; tempo = 0; lead = 0; keys = 0; drums = 0; bass = 0; voice = 0 };
+}
+
+abbrev pub told_of : Result Composed Refusal → Composed
+told_of song = result_unwrap_or song no_song
+
 -- ---- parts
--- the refusal, the style, the tempo, the lead's voice, and how many events each lane has
-abbrev pub numbers_of : Outcome → Score → List ℕ
-numbers_of o s =
-    outcome_number_of o ∷ style_number_of s.style ∷ to_bits binary32 s.bpm ∷ voice_number_of s.lead_voice
+-- the refusal's number, 0 for none, the style, the tempo, the lead's voice, and how many events each lane has
+abbrev pub numbers_of : ℕ → Score → List ℕ
+numbers_of refusal s =
+    refusal ∷ style_number_of s.style ∷ to_bits binary32 s.bpm ∷ voice_number_of s.lead_voice
     ∷ s.lead_count ∷ s.keys_count ∷ s.hit_count ∷ s.bass_count ∷ []
 
 abbrev pub counters_of : Counters → List ℕ
@@ -43,9 +56,9 @@ hit_words_of h = h.bar ∷ to_bits binary32 h.at ∷ kind_number_of h.kind ∷ t
 
 -- ---- the whole
 -- 8 numbers, 7 counters, 7 for the scale, 5 for each bar's chord
-unfoldable pub head_word_of : Composed → ℕ → ℕ
-head_word_of c k =
-    cond (ltb k 8) (get_or (numbers_of c.outcome c.score) k 0)
+unfoldable pub head_word_of : ℕ → Composed → ℕ → ℕ
+head_word_of refusal c k =
+    cond (ltb k 8) (get_or (numbers_of refusal c.score) k 0)
     (cond (ltb k 15) (get_or (counters_of c.counters) (k - 8) 0)
     (cond (ltb k 22) (scale_word_of c.scale (k - 15))
     (chord_word_of (get_or c.score.bar_chords ((k - 22) / 5) past_chord) ((k - 22) % 5))))
@@ -58,9 +71,14 @@ lane_word_of s k =
     (cond (ltb k 1312) (get_or (hit_words_of (get_or s.hits ((k - 920) / 4) past_hit)) ((k - 920) % 4) 0)
     (cond (ltb k 1832) (get_or (note_words_of (get_or s.bass ((k - 1312) / 5) past_note)) ((k - 1312) % 5) 0) 0)))
 
-unfoldable pub word_of : Composed → ℕ → ℕ
-word_of c k = cond (ltb k 62) (head_word_of c k) (lane_word_of c.score (k - 62))
+unfoldable pub song_word_of : ℕ → Composed → ℕ → ℕ
+song_word_of refusal c k = cond (ltb k 62) (head_word_of refusal c k) (lane_word_of c.score (k - 62))
+
+-- of what composing answers
+abbrev pub word_of : Result Composed Refusal → ℕ → ℕ
+word_of song k = song_word_of (outcome_number_of song) (told_of song) k
 
 -- the song without its drums
-abbrev pub unbeaten_song : Composed → Composed
-unbeaten_song c = record { outcome = c.outcome; score = unbeaten_of c.score; scale = c.scale; counters = c.counters }
+abbrev pub unbeaten_song : Result Composed Refusal → Result Composed Refusal
+unbeaten_song (Ok c) = Ok (record { score = unbeaten_of c.score; scale = c.scale; counters = c.counters })
+unbeaten_song (Err r) = Err r

@@ -1,5 +1,5 @@
 -- The numbers on a song's sheet, but for its style and seed, summed. Definitions only.
-use Rattle.std.specs.Prelude.{List, ℕ, ◌+◌, get_or, map, sum, take}
+use Rattle.std.specs.Prelude.{List, ℕ, ◌+◌, get_or, map, sum, take, Result, Ok, Err}
 use Rattle.std.specs.Float.{binary32}
 use Rattle.std.specs.Float.Ieee.{to_bits}
 use Rattle.composer.specs.Compose.{compose_of}
@@ -15,7 +15,8 @@ use Rattle.composer.specs.declared.form.plays.Plays.{Plays}
 use Rattle.composer.specs.declared.harmony.Scale.{Scale}
 use Rattle.composer.specs.declared.note.Hit.{Hit}
 use Rattle.composer.specs.declared.note.Note.{Note}
-use Rattle.composer.specs.declared.refusal.Outcome.{Outcome}
+use Rattle.composer.specs.declared.compose.Composed.{Composed}
+use Rattle.composer.specs.declared.refusal.Refusal.{Refusal}
 use Rattle.composer.specs.declared.score.Score.{Score}
 use Rattle.probe.specs.Draws.{flag_of}
 
@@ -61,11 +62,9 @@ abbrev pub form_sum : Form → ℕ
 form_sum f = ends_sum f + bits_sum (take f.bars f.plays)
 
 -- nothing of a song that is refused
-abbrev pub sum_by : Outcome → ℕ → ℕ
-sum_by Outcome.Done n = n
-sum_by (Outcome.Refused r) n = 0
+abbrev pub sum_by : Result Composed Refusal → Form → ℕ
+sum_by (Ok song) f = score_sum song.score song.scale + form_sum f
+sum_by (Err r) f = 0
 
-unfoldable pub song_sum : ℕ → ℕ → ℕ
-song_sum style seed =
-    let song = compose_of style seed in
-    sum_by song.outcome (score_sum song.score song.scale + form_sum (arrange_of seed))
+abbrev pub song_sum : ℕ → ℕ → ℕ
+song_sum style seed = sum_by (compose_of style seed) (arrange_of seed)

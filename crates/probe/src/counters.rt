@@ -6,7 +6,7 @@ ghost use Rattle.probe.specs.Counters.{room_answer, room_buffer, counters_answer
 use crate::forms::minus_number;
 use crate::scores::counts;
 use composer::compose::compose;
-use composer::refusal::{Outcome, Refusal};
+use composer::refusal::Refusal;
 use composer::score::Counters;
 
 fn put_counters(c: Counters, out: &mut [u64]) -> i64
@@ -27,13 +27,8 @@ pub fn probe_counters(style: u8, seed: u64, out: &mut [u64]) -> i64
     ensures value { result ≡ counters_answer (compose_of style seed) (length out.old) }
     ensures out_after { out.new ≡ counters_buffer (compose_of style seed) out.old }
 {
-    let song = compose(style, seed);
-    let outcome = song.outcome;
-    match outcome {
-        Outcome::Refused(r) => minus_number(r),
-        Outcome::Done => {
-            let counters = song.counters;
-            put_counters(counters, out)
-        }
+    match compose(style, seed) {
+        Ok(song) => put_counters(song.counters, out),
+        Err(r) => minus_number(r),
     }
 }

@@ -7,13 +7,13 @@ ghost use Rattle.composer.specs.Refusal.{number_of};
 ghost use Rattle.probe.specs.Forms.{bars_word_of, head_of, form_word_of, counter_of, outcome_number_of, beatless_word_of, plays_number_of, end_by, outro_by, made_of};
 
 use composer::form::Form;
-use composer::form::ask::{PlaysAnswer, beatless, plays};
+use composer::form::ask::{beatless, plays};
 use composer::form::decisions::decide;
 use composer::form::ends::{Bars, Edge, End, Outro};
 use composer::form::plays::Plays;
 use composer::form::song::arrange;
 use composer::form::spans::spans;
-use composer::refusal::{Outcome, Refusal};
+use composer::refusal::Refusal;
 use streams::stage::Stage;
 
 // 16 bars from `from` on, four bits each, the first bar highest.
@@ -61,25 +61,25 @@ fn word(f: &Form, k: u8) -> u64
 }
 
 // The number of the refusal, 0 for none.
-pub fn outcome_number(o: Outcome) -> u64
+pub fn outcome_number<T: Copy>(o: Result<T, Refusal>) -> u64
     ensures { result ≡ outcome_number_of o }
 {
     match o {
-        Outcome::Done => 0,
-        Outcome::Refused(r) => r.number() as u64,
+        Ok(_) => 0,
+        Err(r) => r.number() as u64,
     }
 }
 
 // Word k of the form without a beat; word 5 is the number of the refusal.
-fn beatless_word(f: Form, k: u8) -> u64
-    ensures { result ≡ beatless_word_of f k }
+#[tactic(auto, unfolding(crate::specs::Forms::beatless_word_of))]
+fn beatless_word(f: &Form, k: u8) -> u64
+    ensures { result ≡ beatless_word_of f.now k }
 {
-    let a = beatless(f);
+    let still = beatless(f);
     if k == 5 {
-        let o = a.outcome;
-        return outcome_number(o);
+        return outcome_number(still);
     }
-    word(&a.form, k)
+    word(&still.unwrap_or(*f), k)
 }
 
 // Minus the number of the refusal.
@@ -90,12 +90,12 @@ pub fn minus_number(r: Refusal) -> i64
 }
 
 // The bar's layers, or minus the number of the refusal.
-fn plays_number(a: PlaysAnswer) -> i64
+fn plays_number(a: Result<Plays, Refusal>) -> i64
     ensures { result ≡ plays_number_of a }
 {
     match a {
-        PlaysAnswer::Found(p) => p.bits() as i64,
-        PlaysAnswer::Refused(r) => minus_number(r),
+        Ok(p) => p.bits() as i64,
+        Err(r) => minus_number(r),
     }
 }
 
@@ -159,8 +159,7 @@ pub fn probe_form(seed: u64, k: u8) -> u64
 pub fn probe_beatless(seed: u64, k: u8) -> u64
     ensures { result ≡ beatless_word_of (arrange_of seed) k }
 {
-    let f = arrange(seed);
-    beatless_word(f, k)
+    beatless_word(&arrange(seed), k)
 }
 
 // The counter of the form's stream after its draws.
@@ -181,8 +180,7 @@ pub fn probe_made_plays(seed: u64, intro: u8, phrases: u8, outro: u8, bars: u8, 
     ensures { result ≡ plays_number_of (plays_of (made_of seed intro phrases outro false bars) bar) }
 {
     let f = made(seed, intro, phrases, outro, false, bars);
-    let a = plays(f, bar as usize);
-    plays_number(a)
+    plays_number(plays(&f, bar as usize))
 }
 
 // Word k of such a form without a beat; word 5 is the number of the refusal, 0 for none.
@@ -197,8 +195,7 @@ pub fn probe_made_beatless(
 ) -> u64
     ensures { result ≡ beatless_word_of (made_of seed intro phrases outro dip bars) k }
 {
-    let f = made(seed, intro, phrases, outro, dip, bars);
-    beatless_word(f, k)
+    beatless_word(&made(seed, intro, phrases, outro, dip, bars), k)
 }
 
 // The number of what the seeds' forms span: 1, 2 or 0, as `spans` has them.

@@ -6,38 +6,41 @@ ghost use Rattle.std.specs.Float.Ieee.{of_bits};
 ghost use Rattle.laws.specs.Lists.{list_to};
 ghost use Rattle.composer.specs.Compose.{compose_of};
 ghost use Rattle.composer.specs.Kicks.{kicks_of};
-ghost use Rattle.probe.specs.Kicks.{kicks_word_of, kind_by, hit_by, score_by};
+ghost use Rattle.probe.specs.Scores.{told_of};
+ghost use Rattle.probe.specs.Kicks.{times_word_of, kicks_word_of, kind_by, hit_by, score_by};
 
 use crate::forms::outcome_number;
+use crate::scores::no_song;
 use composer::compose::compose;
-use composer::kicks::{KicksAnswer, kicks};
+use composer::kicks::{KickTimes, kicks};
 use composer::note::{DrumKind, Hit};
+use composer::refusal::Refusal;
 use composer::score::Score;
 use streams::float::bits_of;
 
-fn kicks_word(a: KicksAnswer, k: usize) -> u64
-    ensures { result ≡ kicks_word_of a k }
+#[tactic(auto, unfolding(crate::specs::Kicks::times_word_of))]
+fn times_word(refusal: u64, times: &KickTimes, k: usize) -> u64
+    ensures { result ≡ times_word_of refusal times.now k }
 {
     if k == 0 {
-        let outcome = a.outcome;
-        return outcome_number(outcome);
+        return refusal;
     }
-    let times = a.times;
     if k == 1 {
         return times.n as u64;
     }
     if k < 100 {
-        let bits = bits_of(times.at[k - 2]);
-        return bits as u64;
+        return bits_of(times.at[k - 2]) as u64;
     }
     0
 }
 
-fn fill(a: KicksAnswer, out: &mut [u64])
+fn fill(a: Result<KickTimes, Refusal>, out: &mut [u64])
     ensures { out.new ≡ list_to (kicks_word_of a) (length out.old) }
 {
+    let refusal = outcome_number(a);
+    let times = a.unwrap_or(KickTimes { at: [0.0; 98], n: 0 });
     for (i, place) in out.iter_mut().enumerate() {
-        *place = kicks_word(a, i);
+        *place = times_word(refusal, &times, i);
     }
 }
 
@@ -105,8 +108,7 @@ fn hits_by(words: &[u64]) -> [Hit; 98]
 fn score_by(words: &[u64]) -> Score
     ensures { result ≡ score_by words.now }
 {
-    let song = compose(0, 0);
-    let mut score = song.score;
+    let mut score = compose(0, 0).unwrap_or(no_song()).score;
     let hits = hits_by(words);
     score.hits = hits;
     score.hit_count = word_at(words, 0) as usize;
@@ -116,12 +118,10 @@ fn score_by(words: &[u64]) -> Score
 // Word i of the kicks of the seed's score in place i of `out`, for each of its places. An unknown style has the score
 // of zeros, and so no kicks.
 pub fn probe_kicks(style: u8, seed: u64, out: &mut [u64])
-    ensures { out.new ≡ list_to (kicks_word_of (kicks_of (compose_of style seed).score)) (length out.old) }
+    ensures { out.new ≡ list_to (kicks_word_of (kicks_of (told_of (compose_of style seed)).score)) (length out.old) }
 {
-    let song = compose(style, seed);
-    let score = song.score;
-    let a = kicks(score);
-    fill(a, out);
+    let song = compose(style, seed).unwrap_or(no_song());
+    fill(kicks(song.score), out);
 }
 
 // The same of a score with other hits: `words` has their count, then two words for each of 98 hits,
@@ -129,7 +129,5 @@ pub fn probe_kicks(style: u8, seed: u64, out: &mut [u64])
 pub fn probe_made_kicks(words: &[u64], out: &mut [u64])
     ensures { out.new ≡ list_to (kicks_word_of (kicks_of (score_by words.now))) (length out.old) }
 {
-    let score = score_by(words);
-    let a = kicks(score);
-    fill(a, out);
+    fill(kicks(score_by(words)), out);
 }

@@ -3,33 +3,49 @@
 ghost use Rattle.std.specs.Prelude.{◌≡◌, ◌<◌, length};
 ghost use Rattle.laws.specs.Lists.{list_to};
 ghost use Rattle.composer.specs.Compose.{compose_of};
-ghost use Rattle.probe.specs.Scores.{numbers_of, counters_of, scale_word_of, chord_word_of, note_words_of, hit_words_of, head_word_of, lane_word_of, word_of, unbeaten_song};
+ghost use Rattle.probe.specs.Scores.{no_song, numbers_of, counters_of, scale_word_of, chord_word_of, note_words_of, hit_words_of, head_word_of, lane_word_of, song_word_of, word_of, unbeaten_song};
 
 use crate::forms::outcome_number;
 use composer::chord::Chord;
-use composer::compose::{Composed, compose};
+use composer::compose::{Composed, compose, no_score};
 use composer::harmony::Scale;
 use composer::kicks::unbeaten;
 use composer::note::{Hit, Note};
-use composer::refusal::Outcome;
+use composer::refusal::Refusal;
 use composer::score::{Counters, Score};
 use streams::float::bits_of;
 
-// The refusal, 0 for none, the style, the tempo, the lead's voice, and how many events each lane has.
-fn numbers(outcome: Outcome, s: Score) -> [u64; 8]
-    ensures { result ≡ numbers_of outcome s }
+// What is told of a song that is refused.
+pub(crate) fn no_song() -> Composed
+    ensures { result ≡ no_song }
 {
-    let style = s.style;
-    let voice = s.lead_voice;
-    let refusal = outcome_number(outcome);
-    let style_no = style.number();
-    let tempo = bits_of(s.bpm);
-    let voice_no = voice.number();
+    let score = no_score();
+    let scale = Scale { pcs: [0; 6], n: 0 };
+    let counters = Counters {
+        harmony: 0,
+        tempo: 0,
+        lead: 0,
+        keys: 0,
+        drums: 0,
+        bass: 0,
+        voice: 0,
+    };
+    Composed {
+        score,
+        scale,
+        counters,
+    }
+}
+
+// The refusal, 0 for none, the style, the tempo, the lead's voice, and how many events each lane has.
+fn numbers(refusal: u64, s: &Score) -> [u64; 8]
+    ensures { result ≡ numbers_of refusal s.now }
+{
     [
         refusal,
-        style_no as u64,
-        tempo as u64,
-        voice_no as u64,
+        s.style.number() as u64,
+        bits_of(s.bpm) as u64,
+        s.lead_voice.number() as u64,
         s.lead_count as u64,
         s.keys_count as u64,
         s.hit_count as u64,
@@ -91,12 +107,12 @@ fn hit_words(h: &Hit) -> [u64; 4]
 
 // A word before the lanes.
 #[tactic(auto, unfolding(crate::specs::Scores::head_word_of))]
-fn head_word(song: &Composed, k: usize) -> u64
+fn head_word(refusal: u64, song: &Composed, k: usize) -> u64
     requires { k < 62 }
-    ensures { result ≡ head_word_of song.now k }
+    ensures { result ≡ head_word_of refusal song.now k }
 {
     if k < 8 {
-        return numbers(song.outcome, song.score)[k];
+        return numbers(refusal, &song.score)[k];
     }
     if k < 15 {
         return counts(song.counters)[k - 8];
@@ -127,21 +143,23 @@ fn lane_word(s: &Score, k: usize) -> u64
     0
 }
 
-#[tactic(auto, unfolding(crate::specs::Scores::word_of))]
-fn word(song: &Composed, k: usize) -> u64
-    ensures { result ≡ word_of song.now k }
+#[tactic(auto, unfolding(crate::specs::Scores::song_word_of))]
+fn word(refusal: u64, song: &Composed, k: usize) -> u64
+    ensures { result ≡ song_word_of refusal song.now k }
 {
     if k < 62 {
-        return head_word(song, k);
+        return head_word(refusal, song, k);
     }
     lane_word(&song.score, k - 62)
 }
 
-fn fill(song: &Composed, out: &mut [u64])
-    ensures { out.new ≡ list_to (word_of song.now) (length out.old) }
+fn fill(song: Result<Composed, Refusal>, out: &mut [u64])
+    ensures { out.new ≡ list_to (word_of song) (length out.old) }
 {
+    let refusal = outcome_number(song);
+    let told = song.unwrap_or(no_song());
     for (i, place) in out.iter_mut().enumerate() {
-        *place = word(song, i);
+        *place = word(refusal, &told, i);
     }
 }
 
@@ -149,14 +167,16 @@ fn fill(song: &Composed, out: &mut [u64])
 pub fn probe_score(style: u8, seed: u64, out: &mut [u64])
     ensures { out.new ≡ list_to (word_of (compose_of style seed)) (length out.old) }
 {
-    fill(&compose(style, seed), out);
+    fill(compose(style, seed), out);
 }
 
 // The same without its drums.
 pub fn probe_unbeaten(style: u8, seed: u64, out: &mut [u64])
     ensures { out.new ≡ list_to (word_of (unbeaten_song (compose_of style seed))) (length out.old) }
 {
-    let mut song = compose(style, seed);
-    song.score = unbeaten(song.score);
-    fill(&song, out);
+    let song = compose(style, seed).map(|song| Composed {
+        score: unbeaten(song.score),
+        ..song
+    });
+    fill(song, out);
 }

@@ -15,7 +15,6 @@ use composer::form::plays::Plays;
 use composer::form::song::arrange;
 use composer::harmony::Scale;
 use composer::note::{Hit, Note};
-use composer::refusal::Outcome;
 use composer::score::Score;
 
 // The bits of x, which is no NaN: nothing tests for one.
@@ -160,13 +159,8 @@ fn form_sum(f: &Form) -> u64
 pub fn probe_song(style: u8, seed: u64) -> u64
     ensures { result ≡ song_sum style seed }
 {
-    let song = compose(style, seed);
-    let outcome = song.outcome;
-    match outcome {
-        Outcome::Refused(_) => 0,
-        Outcome::Done => {
-            let form = arrange(seed);
-            score_sum(&song.score, &song.scale) + form_sum(&form)
-        }
+    match compose(style, seed) {
+        Ok(song) => score_sum(&song.score, &song.scale) + form_sum(&arrange(seed)),
+        Err(_) => 0,
     }
 }

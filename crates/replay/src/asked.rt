@@ -1,13 +1,11 @@
 // What a line asks. The letters are said beside the data, in README.md.
 ghost use Rattle.std.specs.Prelude.{◌≤◌, length};
 
-use composer::refusal::Outcome;
+use composer::refusal::Refusal;
 use editions::convert::convert;
 use halls::list::hall_list;
-use lessons::answer::Lesson;
 use lessons::lesson::lesson;
 use lessons::wishes::Wishes;
-use pages::answer::Written;
 use pages::edition::{Edition, SHEET_MOST};
 use pages::page::bar_page;
 use pages::sheet::{sheet, sheet_in};
@@ -103,10 +101,10 @@ fn byte_fold(before: u64, bytes: &[u8]) -> u64 {
 }
 
 // A fold of the length of what was written and of the whole buffer, or the number of the refusal.
-fn written_fold(written: Written, buf: &[u8]) -> u64 {
+fn written_fold(written: Result<usize, Refusal>, buf: &[u8]) -> u64 {
     match written {
-        Written::Bytes(n) => byte_fold(stirred(NONE, n as u64), buf),
-        Written::Refused(r) => r.number() as u64,
+        Ok(n) => byte_fold(stirred(NONE, n as u64), buf),
+        Err(r) => r.number() as u64,
     }
 }
 
@@ -154,16 +152,13 @@ fn copied_fold(bytes: &[u8]) -> u64 {
 
 // The same by the song that is read, as the canonical writer writes it.
 fn made_fold(bytes: &[u8]) -> u64 {
-    let r = read(bytes);
-    let outcome = r.outcome;
-    match outcome {
-        Outcome::Refused(x) => x.number() as u64,
-        Outcome::Done => {
-            let song = r.song;
+    match read(bytes) {
+        Ok(song) => {
             let mut buf = [0u8; SHEET_MOST];
             let written = write(song, &mut buf);
             written_fold(written, &buf)
         }
+        Err(r) => r.number() as u64,
     }
 }
 
@@ -191,7 +186,7 @@ fn put_spoiled(buf: &mut [u8], seed: u64, how: u64) -> usize
     let written = sheet_in(edition, (how % 2) as u8, seed, buf);
     spoil(buf, how / 65536 % 65536, (how / 256 % 256) as u8);
     let kept = (65535 - how / 4294967296 % 65536) as usize;
-    written.count().min(kept).min(buf.len())
+    written.unwrap_or(0).min(kept).min(buf.len())
 }
 
 // A fold of what is read of a spoiled sheet and written again.
@@ -211,7 +206,7 @@ fn converted_fold(wanted: Edition, seed: u64, how: u64) -> u64 {
 }
 
 // The lesson that `how` tells of (README.md).
-fn lesson_of(start: u64, how: u64) -> Lesson {
+fn lesson_of(start: u64, how: u64) -> Result<u64, Refusal> {
     let wishes = Wishes {
         key: (how / 65536 % 256) as u8,
         tempo: (how / 256 % 256) as u8,
@@ -228,17 +223,14 @@ fn lesson_of(start: u64, how: u64) -> Lesson {
 // The number of its refusal, 0 for none.
 fn lesson_refusal(start: u64, how: u64) -> u64 {
     match lesson_of(start, how) {
-        Lesson::Seed(_) => 0,
-        Lesson::Refused(r) => r.number() as u64,
+        Ok(_) => 0,
+        Err(r) => r.number() as u64,
     }
 }
 
 // The seed that it gives. Where it gives none, the largest number: a line K beside it tells that from a seed.
 fn lesson_seed(start: u64, how: u64) -> u64 {
-    match lesson_of(start, how) {
-        Lesson::Seed(seed) => seed,
-        Lesson::Refused(_) => u64::MAX,
-    }
+    lesson_of(start, how).unwrap_or(u64::MAX)
 }
 
 // Our answer; the largest number for a letter that asks nothing.

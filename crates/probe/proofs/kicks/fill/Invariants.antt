@@ -1,7 +1,7 @@
 -- Each place before the index has its word. Assumes nothing.
 use Rattle.std.proofs.Common.{◌≡◌, ℕ, ◌<◌, get_or}
-use Rattle.probe.specs.Kicks.{kicks_word_of}
+use Rattle.probe.specs.Kicks.{times_word_of}
 use Rattle.probe.proofs.kicks.fill.Given as goal
 
 abbrev pub invariant-loop-i : goal.invariant-loop-i
-invariant-loop-i l = (k : ℕ) → k < l.i → get_or l.out k 0 ≡ kicks_word_of l.a k
+invariant-loop-i l = (k : ℕ) → k < l.i → get_or l.out k 0 ≡ times_word_of l.refusal l.times k
