@@ -1,7 +1,7 @@
 // Runs of draws of one kind, from a stream with any seed and counter, over the whole of `out`. Each
 // answers the counter that its stream is left with.
-ghost use Rattle.std.specs.Prelude.{◌≡◌, ◌≤◌};
-ghost use Rattle.probe.specs.Draws.{stream_at, unit_word_of, pick_word_of, flag_of, chance_word_of, drawn_of, Ran};
+ghost use Rattle.std.specs.Prelude.{◌≡◌};
+ghost use Rattle.probe.specs.Draws.{stream_at, unit_word_of, pick_word_of, chance_word_of, drawn_of, Ran};
 ghost use Rattle.probe.specs.declared.draws.Kind.{Kind};
 
 use streams::draw::{ChanceDraw, PickDraw, chance, coin, pick};
@@ -41,20 +41,12 @@ fn pick_word(d: PickDraw) -> WordDraw
 }
 
 // 1 for yes.
-pub fn flag(b: bool) -> u64
-    ensures value { result ≡ flag_of b }
-    ensures upper_bound { result ≤ 1 }
-{
-    if b { 1 } else { 0 }
-}
-
 fn chance_word(d: ChanceDraw) -> WordDraw
     ensures { result ≡ chance_word_of d }
 {
-    let bit = flag(d.value);
     let next = d.stream;
     WordDraw {
-        value: bit,
+        value: u64::from(d.value),
         stream: next,
     }
 }

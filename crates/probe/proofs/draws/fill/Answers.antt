@@ -1,5 +1,5 @@
 -- A turn makes one draw more and puts it at its place; at the end every place has its draw. Assumes nothing.
-use Rattle.std.proofs.Common.{◌≡◌, ℕ, ◌<◌, length, get_or, sym, ap, ◌∙◌, below_more, arith, rules}
+use Rattle.std.proofs.Common.{◌≡◌, length, sym, ap, ◌∙◌, below_more, arith, rules}
 use Rattle.std.proofs.lemmas.Grind.{common_steps}
 use Rattle.streams.specs.declared.stream.NoiseStream.{NoiseStream}
 use Rattle.streams.specs.declared.stream.WordDraw.{WordDraw}
