@@ -1,7 +1,6 @@
 // Whether every number of a value is in its range.
 ghost use Rattle.std.specs.Prelude.{true, false, ◌≡◌};
 ghost use Rattle.std.specs.Float.Ieee.Scale.{finite};
-ghost use Rattle.reader.specs.Cleared.{is_zero};
 ghost use Rattle.reader.specs.Within.{role_within, note_within, hit_within, notes_within, hits_within, chord_within, chords_within, scale_within, form_within, score_within, within};
 
 use crate::song::Song;
@@ -18,14 +17,6 @@ fn is_finite(x: f32) -> bool
 {
     let n = bits_of(x);
     n % 0x8000_0000 < 0x7f80_0000
-}
-
-// Whether x is 0.0, and not -0.0.
-pub(crate) fn is_zero(x: f32) -> bool
-    ensures { result ≡ is_zero x }
-{
-    let n = bits_of(x);
-    n == 0
 }
 
 // ---- the ranges: an event in use

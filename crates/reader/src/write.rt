@@ -39,7 +39,7 @@ pub fn write(v: Song, buf: &mut [u8]) -> Written
     ensures typed { Typed v }
 {
     let within = is_within(v);
-    let cleared = is_cleared(v);
+    let cleared = is_cleared(&v);
     if !(within & cleared) {
         return Written::Refused(Refusal::Malformed);
     }
