@@ -38,7 +38,7 @@ pub fn write(v: Song, buf: &mut [u8]) -> Written
     ensures buf_after { buf.new ≡ buffer_of buf.old (write_asked v) }
     ensures typed { Typed v }
 {
-    let within = is_within(v);
+    let within = is_within(&v);
     let cleared = is_cleared(&v);
     if !(within & cleared) {
         return Written::Refused(Refusal::Malformed);
