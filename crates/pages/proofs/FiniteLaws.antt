@@ -3,9 +3,8 @@ use mathlib.Core.Path.{◌≡◌, refl, sym, ap, ◌∙◌}
 use Prim.Native.Nat.{ℕ, zero, suc, ◌+◌, ◌*◌, ◌/◌, ◌%◌, ◌<◌}
 use native.Mathlib.Omega.{arith}
 use mathlib.Core.Bool.{Bool, true, false, not, ◌||◌, cond}
-use lib.Dec.{T, eqb, ltb, leb}
-use lib.Ieee.{Float, nan, inf, binary32, odd, of_fields, of_bits, to_bits, fits}
-use lib.Ieee.Bits.{of_bits-to_bits, to_bits-lt}
+use lib.Dec.{eqb, ltb, leb}
+use lib.Ieee.{nan, inf, binary32, odd, of_fields, of_bits}
 use lib.Ieee.Scale.{finite}
 use borrow.Author.Tests.{ltb-true, ltb-false, lt-ltb, le-ltb, ne_eqb, eq-eqb}
 
@@ -35,10 +34,6 @@ field_is n h = go (ltb (n % 2147483648) 2139095040) refl
 finite_bits : (n : ℕ) → n < 4294967296 → finite (of_bits binary32 n) ≡ ltb (n % 2147483648) 2139095040
 unfolding of_bits
 finite_bits n h = fields_finite (leb 2147483648 n) (n % 2147483648 / 8388608) (n % 8388608) ∙ field_is n h
-
--- of a value by its bits
-pub finite_is : (x : Float) → T (fits binary32 x) → ltb (to_bits binary32 x % 2147483648) 2139095040 ≡ finite x
-finite_is x h = sym (finite_bits (to_bits binary32 x) (to_bits-lt binary32 x h)) ∙ ap finite (of_bits-to_bits binary32 x h)
 
 -- ---- of a pattern by its first two bytes
 low_bits : (a b rest : ℕ) → a < 256 → b < 256 → rest < 65536 → ((a * 256 + b) * 65536 + rest) % 2147483648 ≡ (a % 128 * 256 + b) * 65536 + rest

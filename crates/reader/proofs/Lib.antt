@@ -14,6 +14,7 @@ pub mod KnownLaws
 pub mod LaidLaws
 pub mod LayoutLaws
 pub mod LengthLaws
+pub mod LibraryLaws
 pub mod MostLaws
 pub mod NoSeedLaws
 pub mod NumberLaws

@@ -1,146 +1,82 @@
 // Which entries of a value are unused, and that those are zero.
-ghost use Rattle.std.specs.Prelude.{◌≡◌};
-ghost use Rattle.reader.specs.Cleared.{note_zero, hit_zero, notes_zero, hits_zero, scale_zero, plays_zero, score_zero, cleared};
+ghost use Rattle.std.specs.Prelude.{◌≡◌, drop};
+ghost use Rattle.std.specs.List.{list_all};
+ghost use Rattle.reader.specs.Cleared.{is_zero, note_zero, hit_zero, scale_zero, plays_zero, score_zero, cleared};
 
 use crate::song::Song;
-use crate::within::is_zero;
 use composer::form::Form;
 use composer::harmony::Scale;
 use composer::note::{Hit, Note};
 use composer::score::Score;
+use streams::float::bits_of;
 
-fn note_zero(n: Note) -> bool
-    ensures { result ≡ note_zero n }
+// Whether x is 0.0, and not -0.0.
+fn is_zero(x: f32) -> bool
+    ensures { result ≡ is_zero x }
 {
-    let role = n.role;
-    let number = role.number();
-    let at = is_zero(n.at);
-    let vel = is_zero(n.vel);
-    let dur = is_zero(n.dur);
-    (n.bar == 0) & (n.midi == 0) & (number == 0) & (n.spare == 0) & at & vel & dur
+    bits_of(x) == 0
 }
 
-fn hit_zero(h: Hit) -> bool
-    ensures { result ≡ hit_zero h }
+#[tactic(auto, unfolding(crate::specs::Cleared::note_zero))]
+fn note_zero(n: &Note) -> bool
+    ensures { result ≡ note_zero n.now }
 {
-    let kind = h.kind;
-    let number = kind.number();
-    let at = is_zero(h.at);
-    let gain = is_zero(h.gain);
-    (h.bar == 0) & (number == 0) & (h.spare == 0) & at & gain
+    n.bar == 0
+        && n.midi == 0
+        && n.role.number() == 0
+        && n.spare == 0
+        && is_zero(n.at)
+        && is_zero(n.vel)
+        && is_zero(n.dur)
+}
+
+#[tactic(auto, unfolding(crate::specs::Cleared::hit_zero))]
+fn hit_zero(h: &Hit) -> bool
+    ensures { result ≡ hit_zero h.now }
+{
+    h.bar == 0 && h.kind.number() == 0 && h.spare == 0 && is_zero(h.at) && is_zero(h.gain)
 }
 
 // Of a lane's entries those past the first n.
-fn lead_zero(lead: [Note; 56], n: usize) -> bool
-    ensures { result ≡ notes_zero lead 56 n }
+fn notes_zero(notes: &[Note], n: usize) -> bool
+    ensures { result ≡ list_all note_zero (drop n notes.now) }
 {
-    let mut ok = true;
-    let mut i: usize = 0;
-    while i < 56 {
-        let note = lead[i];
-        let zero = note_zero(note);
-        ok = ok & ((i < n) | zero);
-        i += 1;
-    }
-    ok
+    notes.iter().skip(n).all(note_zero)
 }
 
-fn keys_zero(keys: [Note; 128], n: usize) -> bool
-    ensures { result ≡ notes_zero keys 128 n }
+fn hits_zero(hits: &[Hit], n: usize) -> bool
+    ensures { result ≡ list_all hit_zero (drop n hits.now) }
 {
-    let mut ok = true;
-    let mut i: usize = 0;
-    while i < 128 {
-        let note = keys[i];
-        let zero = note_zero(note);
-        ok = ok & ((i < n) | zero);
-        i += 1;
-    }
-    ok
-}
-
-fn hits_zero(hits: [Hit; 98], n: usize) -> bool
-    ensures { result ≡ hits_zero hits 98 n }
-{
-    let mut ok = true;
-    let mut i: usize = 0;
-    while i < 98 {
-        let hit = hits[i];
-        let zero = hit_zero(hit);
-        ok = ok & ((i < n) | zero);
-        i += 1;
-    }
-    ok
-}
-
-fn bass_zero(bass: [Note; 104], n: usize) -> bool
-    ensures { result ≡ notes_zero bass 104 n }
-{
-    let mut ok = true;
-    let mut i: usize = 0;
-    while i < 104 {
-        let note = bass[i];
-        let zero = note_zero(note);
-        ok = ok & ((i < n) | zero);
-        i += 1;
-    }
-    ok
+    hits.iter().skip(n).all(hit_zero)
 }
 
 fn scale_zero(s: Scale) -> bool
     ensures { result ≡ scale_zero s }
 {
-    let pcs = s.pcs;
-    let n = s.n;
-    let mut ok = true;
-    let mut i: usize = 0;
-    while i < 6 {
-        ok = ok & ((i < n) | (pcs[i] == 0));
-        i += 1;
-    }
-    ok
+    s.pcs.iter().skip(s.n).all(|pc| *pc == 0)
 }
 
 // No layer plays past the song's bars.
-fn plays_zero(f: Form) -> bool
-    ensures { result ≡ plays_zero f }
+fn plays_zero(f: &Form) -> bool
+    ensures { result ≡ plays_zero f.now }
 {
-    let plays = f.plays;
-    let n = f.bars as usize;
-    let mut ok = true;
-    let mut b: usize = 0;
-    while b < 64 {
-        let p = plays[b];
-        let bits = p.bits();
-        ok = ok & ((b < n) | (bits == 0));
-        b += 1;
-    }
-    ok
+    f.plays.iter().skip(f.bars as usize).all(|p| p.bits() == 0)
 }
 
-fn score_zero(s: Score) -> bool
-    ensures { result ≡ score_zero s }
+#[tactic(auto, using(crate::proofs::LibraryLaws::notes_zero_is, crate::proofs::LibraryLaws::hits_zero_is), unfolding(crate::specs::Cleared::score_zero))]
+fn score_zero(s: &Score) -> bool
+    ensures { result ≡ score_zero s.now }
 {
-    let lead = s.lead;
-    let keys = s.keys;
-    let hits = s.hits;
-    let bass = s.bass;
-    let a = lead_zero(lead, s.lead_count);
-    let b = keys_zero(keys, s.keys_count);
-    let c = hits_zero(hits, s.hit_count);
-    let d = bass_zero(bass, s.bass_count);
-    a & b & c & d
+    notes_zero(&s.lead, s.lead_count)
+        && notes_zero(&s.keys, s.keys_count)
+        && hits_zero(&s.hits, s.hit_count)
+        && notes_zero(&s.bass, s.bass_count)
 }
 
 // Whether every unused entry is zero.
-pub(crate) fn is_cleared(v: Song) -> bool
-    ensures { result ≡ cleared v }
+#[tactic(auto, unfolding(crate::specs::Cleared::cleared))]
+pub(crate) fn is_cleared(v: &Song) -> bool
+    ensures { result ≡ cleared v.now }
 {
-    let score = v.score;
-    let scale = v.scale;
-    let form = v.form;
-    let a = score_zero(score);
-    let b = scale_zero(scale);
-    let c = plays_zero(form);
-    a & b & c
+    score_zero(&v.score) && scale_zero(v.scale) && plays_zero(&v.form)
 }

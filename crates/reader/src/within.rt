@@ -1,7 +1,5 @@
 // Whether every number of a value is in its range.
-ghost use Rattle.std.specs.Prelude.{true, false, ◌≡◌};
-ghost use Rattle.std.specs.Float.Ieee.Scale.{finite};
-ghost use Rattle.reader.specs.Cleared.{is_zero};
+ghost use Rattle.std.specs.Prelude.{◌≡◌, length};
 ghost use Rattle.reader.specs.Within.{role_within, note_within, hit_within, notes_within, hits_within, chord_within, chords_within, scale_within, form_within, score_within, within};
 
 use crate::song::Song;
@@ -11,202 +9,97 @@ use composer::harmony::Scale;
 use composer::note::{Hit, Note, NoteRole};
 use composer::score::Score;
 use pages::edition::Edition;
-use streams::float::bits_of;
 
-fn is_finite(x: f32) -> bool
-    ensures { result ≡ finite x }
-{
-    let n = bits_of(x);
-    n % 0x8000_0000 < 0x7f80_0000
-}
-
-// Whether x is 0.0, and not -0.0.
-pub(crate) fn is_zero(x: f32) -> bool
-    ensures { result ≡ is_zero x }
-{
-    let n = bits_of(x);
-    n == 0
-}
-
-// ---- the ranges: an event in use
 // A role: in edition 2 the lead has 0 to 5 and all else 6, in edition 1 all have 6.
+#[tactic(auto, unfolding(crate::specs::Within::role_within))]
 fn role_within(role: NoteRole, edition: Edition, leads: bool) -> bool
     ensures { result ≡ role_within edition leads role }
 {
     let number = role.number();
     match edition {
-        Edition::One => number == 6,
-        Edition::Two => {
-            if leads {
-                return number < 6;
-            }
-            number == 6
-        }
+        Edition::Two if leads => number < 6,
+        _ => number == 6,
     }
 }
 
-fn note_within(n: Note, edition: Edition, leads: bool) -> bool
-    ensures { result ≡ note_within edition leads n }
+#[tactic(auto, using(crate::proofs::LibraryLaws::finite_is), unfolding(crate::specs::Within::note_within))]
+fn note_within(n: &Note, edition: Edition, leads: bool) -> bool
+    ensures { result ≡ note_within edition leads n.now }
 {
-    let note_role = n.role;
-    let role = role_within(note_role, edition, leads);
-    let at = is_finite(n.at);
-    let vel = is_finite(n.vel);
-    let dur = is_finite(n.dur);
-    (n.bar < 8) & (n.midi <= 127) & role & (n.spare == 0) & at & vel & dur
+    n.bar < 8
+        && n.midi <= 127
+        && role_within(n.role, edition, leads)
+        && n.spare == 0
+        && n.at.is_finite()
+        && n.vel.is_finite()
+        && n.dur.is_finite()
 }
 
-fn hit_within(h: Hit) -> bool
-    ensures { result ≡ hit_within h }
+#[tactic(auto, using(crate::proofs::LibraryLaws::finite_is), unfolding(crate::specs::Within::hit_within))]
+fn hit_within(h: &Hit) -> bool
+    ensures { result ≡ hit_within h.now }
 {
-    let at = is_finite(h.at);
-    let gain = is_finite(h.gain);
-    (h.bar < 8) & (h.spare == 0) & at & gain
+    h.bar < 8 && h.spare == 0 && h.at.is_finite() && h.gain.is_finite()
 }
 
 // The lanes: the first n entries are in use.
-fn lead_within(lead: [Note; 56], n: usize, edition: Edition) -> bool
-    ensures { result ≡ notes_within edition true lead 56 n }
+#[tactic(auto, using(crate::proofs::LibraryLaws::notes_within_is))]
+fn notes_within(notes: &[Note], n: usize, edition: Edition, leads: bool) -> bool
+    ensures { result ≡ notes_within edition leads notes.now (length notes.now) n }
 {
-    if n > 56 {
-        return false;
-    }
-    let mut ok = true;
-    let mut i: usize = 0;
-    while i < n {
-        let note = lead[i];
-        let fits = note_within(note, edition, true);
-        ok = ok & fits;
-        i += 1;
-    }
-    ok
+    n <= notes.len() && notes[..n].iter().all(|x| note_within(x, edition, leads))
 }
 
-fn keys_within(keys: [Note; 128], n: usize, edition: Edition) -> bool
-    ensures { result ≡ notes_within edition false keys 128 n }
+#[tactic(auto, using(crate::proofs::LibraryLaws::hits_within_is))]
+fn hits_within(hits: &[Hit], n: usize) -> bool
+    ensures { result ≡ hits_within hits.now (length hits.now) n }
 {
-    if n > 128 {
-        return false;
-    }
-    let mut ok = true;
-    let mut i: usize = 0;
-    while i < n {
-        let note = keys[i];
-        let fits = note_within(note, edition, false);
-        ok = ok & fits;
-        i += 1;
-    }
-    ok
+    n <= hits.len() && hits[..n].iter().all(hit_within)
 }
 
-fn hits_within(hits: [Hit; 98], n: usize) -> bool
-    ensures { result ≡ hits_within hits 98 n }
+fn chord_within(c: &Chord) -> bool
+    ensures { result ≡ chord_within c.now }
 {
-    if n > 98 {
-        return false;
-    }
-    let mut ok = true;
-    let mut i: usize = 0;
-    while i < n {
-        let hit = hits[i];
-        let fits = hit_within(hit);
-        ok = ok & fits;
-        i += 1;
-    }
-    ok
-}
-
-fn bass_within(bass: [Note; 104], n: usize, edition: Edition) -> bool
-    ensures { result ≡ notes_within edition false bass 104 n }
-{
-    if n > 104 {
-        return false;
-    }
-    let mut ok = true;
-    let mut i: usize = 0;
-    while i < n {
-        let note = bass[i];
-        let fits = note_within(note, edition, false);
-        ok = ok & fits;
-        i += 1;
-    }
-    ok
-}
-
-fn chord_within(c: Chord) -> bool
-    ensures { result ≡ chord_within c }
-{
-    let n = c.notes;
-    (n[0] <= 127) & (n[1] <= 127) & (n[2] <= 127) & (n[3] <= 127)
+    c.notes.iter().all(|note| *note <= 127)
 }
 
 pub(crate) fn chords_within(chords: [Chord; 8]) -> bool
     ensures { result ≡ chords_within chords }
 {
-    let mut ok = true;
-    let mut b: usize = 0;
-    while b < 8 {
-        let chord = chords[b];
-        let fits = chord_within(chord);
-        ok = ok & fits;
-        b += 1;
-    }
-    ok
+    chords.iter().all(chord_within)
 }
 
+#[tactic(auto, unfolding(crate::specs::Within::scale_within))]
 pub(crate) fn scale_within(s: Scale) -> bool
     ensures { result ≡ scale_within s }
 {
-    let pcs = s.pcs;
-    let n = s.n;
-    if n > 6 {
-        return false;
-    }
-    let mut ok = true;
-    let mut i: usize = 0;
-    while i < n {
-        ok = ok & (pcs[i] < 12);
-        i += 1;
-    }
-    (5 <= n) & ok
+    5 <= s.n && s.n <= 6 && s.pcs[..s.n].iter().all(|pc| *pc < 12)
 }
 
-fn form_within(f: Form) -> bool
-    ensures { result ≡ form_within f }
+#[tactic(auto, unfolding(crate::specs::Within::form_within))]
+fn form_within(f: &Form) -> bool
+    ensures { result ≡ form_within f.now }
 {
-    let intro = f.intro_bars();
-    let body = f.body_bars();
-    let outro = f.outro_bars();
-    (4 <= f.phrases) & (f.phrases <= 6) & (intro as u16 + body + outro as u16 == f.bars as u16)
+    let parts = f.intro_bars() as u16 + f.body_bars() + f.outro_bars() as u16;
+    4 <= f.phrases && f.phrases <= 6 && parts == f.bars as u16
 }
 
-fn score_within(s: Score, edition: Edition) -> bool
-    ensures { result ≡ score_within edition s }
+#[tactic(auto, using(crate::proofs::LibraryLaws::finite_is), unfolding(crate::specs::Within::score_within))]
+fn score_within(s: &Score, edition: Edition) -> bool
+    ensures { result ≡ score_within edition s.now }
 {
-    let chords = s.bar_chords;
-    let lead = s.lead;
-    let keys = s.keys;
-    let hits = s.hits;
-    let bass = s.bass;
-    let a = is_finite(s.bpm);
-    let b = chords_within(chords);
-    let c = lead_within(lead, s.lead_count, edition);
-    let d = keys_within(keys, s.keys_count, edition);
-    let e = hits_within(hits, s.hit_count);
-    let f = bass_within(bass, s.bass_count, edition);
-    a & b & c & d & e & f
+    s.bpm.is_finite()
+        && chords_within(s.bar_chords)
+        && notes_within(&s.lead, s.lead_count, edition, true)
+        && notes_within(&s.keys, s.keys_count, edition, false)
+        && hits_within(&s.hits, s.hit_count)
+        && notes_within(&s.bass, s.bass_count, edition, false)
 }
 
 // Whether every number is in its range.
-pub(crate) fn is_within(v: Song) -> bool
-    ensures { result ≡ within v }
+#[tactic(auto, unfolding(crate::specs::Within::within))]
+pub(crate) fn is_within(v: &Song) -> bool
+    ensures { result ≡ within v.now }
 {
-    let score = v.score;
-    let scale = v.scale;
-    let form = v.form;
-    let edition = v.edition;
-    let a = score_within(score, edition);
-    let b = scale_within(scale);
-    let c = form_within(form);
-    a & b & c
+    score_within(&v.score, v.edition) && scale_within(v.scale) && form_within(&v.form)
 }

@@ -38,8 +38,8 @@ pub fn write(v: Song, buf: &mut [u8]) -> Result<usize, Refusal>
     ensures buf_after { buf.new ≡ buffer_of buf.old (write_asked v) }
     ensures typed { Typed v }
 {
-    let within = is_within(v);
-    let cleared = is_cleared(v);
+    let within = is_within(&v);
+    let cleared = is_cleared(&v);
     if !(within & cleared) {
         return Err(Refusal::Malformed);
     }

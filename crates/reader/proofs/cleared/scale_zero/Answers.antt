@@ -1,19 +1,17 @@
--- The entries tested so far, one more with each turn. Assumes nothing.
-use mathlib.Core.Path.{◌≡◌, refl}
-use native.Mathlib.Numerals.{add-one}
-use native.Mathlib.Omega.{arith}
+-- The chain tests the entries past the first n. Assumes nothing.
+use mathlib.Core.Path.{sym, ◌∙◌}
+use Rattle.std.proofs.Common.{rules, tests}
+use Rattle.std.proofs.lemmas.Iterator.{YieldsList-from_slice}
+use Rattle.std.proofs.lemmas.Iterator.Adapters.{YieldsList-from_skip}
+use Rattle.std.proofs.lemmas.Iterator.Search.{all_from_yields_List}
+use lib.Dec.{eqb}
 use Rattle.reader.specs.Cleared.{scale_zero}
-use Rattle.reader.specs.Tests.{all_to}
+use Rattle.reader.proofs.LibraryLaws.{each_from}
 use Rattle.reader.proofs.cleared.scale_zero.Goals as goal
-
-pub loop-i-init : goal.loop-i-init
-unfolding all_to
-loop-i-init c = (omega arith, refl)
-
-pub loop-i-preserved : goal.loop-i-preserved
-unfolding all_to
-loop-i-preserved c = let l = c.loop-i in (omega arith, rw (l.invariant.1, add-one l.i))
 
 pub returns : goal.returns
 unfolding scale_zero
-returns c = let l = c.loop-i in let e : l.i ≡ 6 = omega arith in rw (l.invariant.1, e)
+returns c =
+    let s = c.args.s in
+    all_from_yields_List (λ pc. eqb pc 0) _ _ _ c.all.ensures.ran (YieldsList-from_skip s.n (YieldsList-from_slice s.pcs cc) cc) (λ x b q k. search (rules, tests))
+    ∙ sym (each_from (λ pc. eqb pc 0) 0 s.pcs 6 s.n (search rules))

@@ -1,19 +1,15 @@
--- The chords tested so far, one more with each turn. Assumes nothing.
-use mathlib.Core.Path.{◌≡◌, refl}
-use native.Mathlib.Numerals.{add-one}
-use native.Mathlib.Omega.{arith}
-use Rattle.reader.specs.Tests.{all_to}
-use Rattle.reader.specs.Within.{chords_within}
+-- The chain tests all. Assumes nothing.
+use mathlib.Core.Path.{sym, ◌∙◌}
+use Rattle.std.proofs.Common.{rules, tests}
+use Rattle.std.proofs.lemmas.Iterator.{YieldsList-from_slice}
+use Rattle.std.proofs.lemmas.Iterator.Search.{all_from_yields_List}
+use Rattle.composer.specs.Chord.{past_chord}
+use Rattle.reader.specs.Within.{chord_within, chords_within}
+use Rattle.reader.proofs.LibraryLaws.{each}
 use Rattle.reader.proofs.within.chords_within.Goals as goal
-
-pub loop-b-init : goal.loop-b-init
-unfolding all_to
-loop-b-init c = (omega arith, refl)
-
-pub loop-b-preserved : goal.loop-b-preserved
-unfolding all_to
-loop-b-preserved c = let l = c.loop-b in (omega arith, rw (c.chord_within-fits.ensures, l.invariant.1, add-one l.b))
 
 pub returns : goal.returns
 unfolding chords_within
-returns c = let l = c.loop-b in let e : l.b ≡ 8 = omega arith in rw (l.invariant.1, e)
+returns c =
+    let xs = c.args.chords in
+    all_from_yields_List chord_within _ _ _ c.all.ensures.ran (YieldsList-from_slice xs cc) (λ x b q k. search (rules, tests)) ∙ sym (each chord_within past_chord xs 8 (search rules))

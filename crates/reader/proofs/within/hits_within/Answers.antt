@@ -1,24 +1,18 @@
--- The events tested so far, one more with each turn. Assumes nothing.
-use mathlib.Core.Path.{◌≡◌, refl}
-use native.Mathlib.Numerals.{add-one}
+-- The chain tests the first n entries. Assumes nothing.
+use mathlib.Core.Path.{◌≡◌}
 use native.Mathlib.Omega.{arith}
-use borrow.Author.Tests.{lt-leb, le-leb}
-use Rattle.reader.specs.Tests.{all_to}
-use Rattle.reader.specs.Within.{hits_within}
+use Rattle.std.proofs.Common.{rules, tests}
+use Rattle.std.proofs.lemmas.Grind.{common_steps}
+use Rattle.std.proofs.lemmas.Iterator.{YieldsList-from_slice}
+use Rattle.std.proofs.lemmas.Iterator.Search.{all_from_yields_List}
+use Rattle.std.specs.List.{list_all}
+use lib.ListN.{take}
+use Rattle.reader.specs.Within.{hit_within}
+use Rattle.reader.proofs.LibraryLaws.{hits_within_is}
 use Rattle.reader.proofs.within.hits_within.Goals as goal
 
-pub returns-then-n-gt98 : goal.returns-then-n-gt98
-unfolding hits_within
-returns-then-n-gt98 c = rw (lt-leb _ _ c.if-n-gt98.true)
-
-pub loop-i-init : goal.loop-i-init
-unfolding all_to
-loop-i-init c = (omega arith, refl)
-
-pub loop-i-preserved : goal.loop-i-preserved
-unfolding all_to
-loop-i-preserved c = let l = c.loop-i in (omega arith, rw (c.hit_within-fits.ensures, l.invariant.1, add-one l.i))
-
-pub returns : goal.returns
-unfolding hits_within
-returns c = let l = c.loop-i in let n = c.args.n in let e : l.i ≡ n = omega arith in rw (l.invariant.1, e, le-leb n 98 c.if-n-gt98.false)
+pub returns-then-n-hits : goal.returns-then-n-hits
+returns-then-n-hits c =
+    let used = take c.args.n c.args.hits.now in
+    let e : c.all.result ≡ list_all hit_within used = all_from_yields_List hit_within _ _ _ c.all.ensures.ran (YieldsList-from_slice used cc) (λ x b q k. search (rules, tests)) in
+    grind (arith, hits_within_is, common_steps)
