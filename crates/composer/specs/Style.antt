@@ -1,10 +1,10 @@
 -- The two styles, and every setting their songs are written with. Definitions only.
-use Rattle.std.specs.Prelude.{false, ℕ, Float}
+use Rattle.std.specs.Prelude.{Bool, false, ℕ, Float}
 use Rattle.std.specs.Float.{binary32}
 use Rattle.std.specs.Float.Ieee.{of_bits}
 use Rattle.streams.specs.Draw.{chance_of}
 use Rattle.streams.specs.declared.stream.NoiseStream.{NoiseStream}
-use Rattle.streams.specs.declared.draw.ChanceDraw.{ChanceDraw}
+use Rattle.streams.specs.declared.stream.Draw.{Draw}
 use Rattle.composer.specs.Spread.{between_of}
 use Rattle.composer.specs.declared.spread.Spread.{Spread}
 use Rattle.composer.specs.declared.style.Style.{Style}
@@ -22,7 +22,7 @@ style_number_of Hiphop = 0
 style_number_of Sleep = 1
 
 -- what a style never does takes no draw
-unfoldable pub odds_of : Odds → NoiseStream → ChanceDraw
+unfoldable pub odds_of : Odds → NoiseStream → Draw Bool
 odds_of Odds.Never s = record { value = false; stream = s }
 odds_of (Odds.Chance p) s = chance_of s p
 

@@ -3,8 +3,8 @@ ghost use Rattle.std.specs.Prelude.{◌≡◌};
 ghost use Rattle.composer.specs.Style.{style_number_of, odds_of, major_share_of, bpm_of, lead_style_of, keys_style_of, bass_style_of};
 
 use crate::spread::{Spread, between};
-use streams::draw::{ChanceDraw, chance};
-use streams::stream::NoiseStream;
+use streams::draw::chance;
+use streams::stream::{Draw, NoiseStream};
 
 #[derive(Clone, Copy)]
 pub enum Style {
@@ -33,11 +33,11 @@ pub enum Odds {
 
 impl Odds {
     // Yes by its chance; where there is none, no without a draw.
-    pub fn draw(self, s: NoiseStream) -> ChanceDraw
+    pub fn draw(self, s: NoiseStream) -> Draw<bool>
         ensures { result ≡ odds_of self s }
     {
         match self {
-            Odds::Never => ChanceDraw {
+            Odds::Never => Draw {
                 value: false,
                 stream: s,
             },

@@ -15,7 +15,7 @@ decreases-loop-i l = l.i-end - l.i
 
 abbrev pub invariant-loop-b : goal.invariant-loop-b
 invariant-loop-b l =
-    (l.b ≤ 8) × (bars_played l.chords l.rhythms l.knobs l.beat_s (record { notes = l.initial.notes; count = l.initial.count; stream = l.initial.stream }) l.b ≡ record { notes = l.notes; count = l.count; stream = l.stream })
+    (l.b ≤ 8) × (bars_played l.h.bars l.rhythms.value l.knobs l.beat_s (record { notes = l.initial.notes; count = l.initial.count; stream = l.initial.stream }) l.b ≡ record { notes = l.notes; count = l.count; stream = l.stream })
 
 abbrev pub decreases-loop-b : goal.decreases-loop-b
 decreases-loop-b l = 8 - l.b

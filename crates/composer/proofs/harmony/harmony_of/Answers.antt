@@ -5,19 +5,19 @@ use Rattle.composer.specs.Harmony.{rows_of, harmony_in, harmony_of}
 use Rattle.composer.proofs.HarmonyLaws.{loop_degree, rows_some}
 use Rattle.composer.proofs.harmony.harmony_of.Goals as goal
 
-pub melody_pcs-scale-requires : goal.melody_pcs-scale-requires
-melody_pcs-scale-requires c = rw c.pick-c.ensures (pick_lt _ 12 (omega arith))
+pub melody_pcs-requires : goal.melody_pcs-requires
+melody_pcs-requires c = rw c.pick-key.ensures (pick_lt _ 12 (omega arith))
 
-pub loop_at-row-requires : goal.loop_at-row-requires
-loop_at-row-requires c =
-    let major = c.chance-a.result.value in
-    rw (c.pick-b.ensures, c.rows-n.ensures) (pick_lt _ (rows_of major) (rows_some major))
+pub loop_at-requires : goal.loop_at-requires
+loop_at-requires c =
+    let major = c.chance-major.result.value in
+    rw (c.pick-row.ensures, c.rows.ensures) (pick_lt _ (rows_of major) (rows_some major))
 
-pub chords-bars-requires : goal.chords-bars-requires
-chords-bars-requires c =
-    record { key_bound = rw c.pick-c.ensures (pick_lt _ 12 (omega arith)); by_index = λ k h. rw c.loop_at-row.ensures (loop_degree c.chance-a.result.value c.pick-b.result.value k) }
+pub chords-requires : goal.chords-requires
+chords-requires c =
+    record { key_bound = rw c.pick-key.ensures (pick_lt _ 12 (omega arith)); by_index = λ k h. rw c.loop_at.ensures (loop_degree c.chance-major.result.value c.pick-row.result.value k) }
 
 pub returns : goal.returns
 unfolding harmony_of harmony_in
 returns c =
-    rw (c.chords-bars.ensures, c.loop_at-row.ensures, c.melody_pcs-scale.ensures, c.pick-c.ensures, c.pick-b.ensures, c.rows-n.ensures, c.chance-a.ensures, c.major_share-share.ensures)
+    rw (c.chords.ensures, c.loop_at.ensures, c.melody_pcs.ensures, c.pick-key.ensures, c.pick-row.ensures, c.rows.ensures, c.chance-major.ensures, c.major_share.ensures)

@@ -102,7 +102,7 @@ loop-e-preserved c =
     let strikes : c.chance-struck.result.value ≡ true = not-false _ c.if-not-struck.false in
     let e = c.loop-e.e in
     let few = c.loop-e.invariant.1 in
-    elim c.match-comp.branch [
+    elim c.match-k.branch [
       | in-Shell w ↦ (
         omega (arith, c.loop-e-test.true),
         omega (arith, w.count-is, few),

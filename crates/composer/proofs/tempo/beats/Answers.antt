@@ -5,17 +5,17 @@ use Rattle.composer.specs.Tempo.{beats_of, tempo_draw_of}
 use Rattle.composer.proofs.TempoLaws.{drawn_small, beats_byte}
 use Rattle.composer.proofs.tempo.beats.Goals as goal
 
-pub rounded-n-requires : goal.rounded-n-requires
-rounded-n-requires c =
-    rw (c.draw-d.ensures, c.bpm-window.ensures) (drawn_small c.args.s c.args.style)
+pub rounded-requires : goal.rounded-requires
+rounded-requires c =
+    rw (c.draw-d.ensures, c.bpm.ensures) (drawn_small c.args.s c.args.style)
 
 pub overflow_cast-result : goal.overflow_cast-result
 unfolding beats_of
 overflow_cast-result c =
-    let byte : c.rounded-n.result < 256 = rw (c.rounded-n.ensures, c.draw-d.ensures, c.bpm-window.ensures) (beats_byte c.args.s c.args.style) in
+    let byte : c.rounded.result < 256 = rw (c.rounded.ensures, c.draw-d.ensures, c.bpm.ensures) (beats_byte c.args.s c.args.style) in
     omega arith
 
 pub returns : goal.returns
 unfolding tempo_draw_of beats_of
 returns c =
-    rw (c.rounded-n.ensures, c.draw-d.ensures, c.bpm-window.ensures)
+    rw (c.rounded.ensures, c.draw-d.ensures, c.bpm.ensures)

@@ -1,11 +1,12 @@
 -- After i turns the stream has made i draws, and they stand in the first i places. Assumes nothing.
 use mathlib.Core.Path.{◌≡◌, refl, sym, ap, ◌∙◌}
+use Prim.Native.Nat.{ℕ}
 use native.Mathlib.Omega.{arith}
 use borrow.Author.Rules.{rules}
 use lib.ListN.{length}
 use Rattle.laws.proofs.Lists.{fill_none, fill_on, fill_all}
 use Rattle.streams.specs.declared.stream.NoiseStream.{NoiseStream}
-use Rattle.streams.specs.declared.stream.WordDraw.{WordDraw}
+use Rattle.streams.specs.declared.stream.Draw.{Draw}
 use Rattle.streams.proofs.StreamLaws.{after_none}
 use Rattle.probe.specs.Draws.{stream_at, drawn_of, draw_of}
 use Rattle.probe.proofs.DrawsLaws.{drawn_on_lem}
@@ -23,7 +24,7 @@ loop-i-preserved c =
     let e = c.drawn-d.ensures ∙ ap (drawn_of c.args.kind) l.invariant.2 in (
       search rules,
       search rules,
-      ap (λ (d : WordDraw). d.stream) e ∙ drawn_on_lem c.args.kind s l.i,
+      ap (λ (d : Draw ℕ). d.stream) e ∙ drawn_on_lem c.args.kind s l.i,
       rw (l.invariant.3, e) (fill_on (draw_of c.args.kind s) c.args.out.now l.i (omega arith)),
     )
 

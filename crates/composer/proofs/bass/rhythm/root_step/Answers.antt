@@ -1,5 +1,6 @@
 -- What is left to try from step i on is the answer, and the loop stops at the first that comes. Assumes nothing.
-use mathlib.Core.Path.{refl, sym, ap, ◌∙◌}
+use mathlib.Core.Path.{◌≡◌, refl, sym, ap, ◌∙◌}
+use borrow.Author.Rules.{rules}
 use native.Mathlib.Omega.{arith}
 use Rattle.composer.specs.Bass.Rhythm.{root_step_of}
 use Rattle.composer.proofs.bass.RhythmLaws.{root_hit, root_miss, root_last}
@@ -26,4 +27,5 @@ unfolding root_step_of
 returns c =
     let l = c.loop-i in
     let last = root_last l.stream l.left l.i (omega arith) in
-    record { value = rw (c.chance-c-2.ensures, ← c.first_beat_sum-left.ensures) (sym last ∙ l.invariant.1); step_bound = omega arith }
+    let three : c.map.result ≡ record { value = 3; stream = c.chance.result.stream } = search rules in
+    record { value = rw (three, c.chance.ensures, ← c.first_beat_sum-left.ensures) (sym last ∙ l.invariant.1); step_bound = rw three (omega arith) }

@@ -6,14 +6,14 @@ use Rattle.composer.specs.Lead.Answer.{answer_bar_of}
 use borrow.Author.Rules.{rules}
 use Rattle.composer.proofs.lead.answer.answer_bar.Goals as goal
 
-pub settle-done-requires : goal.settle-done-requires
-settle-done-requires c =
+pub settle-requires : goal.settle-requires
+settle-requires c =
     let d = c.drop_one-left in
     let few = c.drop_one-left.ensures.n_bound in
-    let k : length d.result.beats.at ≡ 7 = search rules in
+    let k : length d.result.value.at ≡ 7 = search rules in
     (few, omega arith)
 
 pub returns : goal.returns
 unfolding answer_bar_of
 returns c =
-    record { value = rw (← c.varied-d.ensures.value, ← c.drop_one-left.ensures.value, c.settle-done.ensures.value); n_bound = c.settle-done.ensures.n_bound }
+    record { value = rw (← c.varied.ensures.value, ← c.drop_one-left.ensures.value, c.settle.ensures.value); n_bound = c.settle.ensures.n_bound }

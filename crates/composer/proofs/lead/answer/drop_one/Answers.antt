@@ -6,21 +6,21 @@ use Rattle.composer.specs.Lead.Answer.{drop_one_of}
 use borrow.Author.Rules.{rules}
 use Rattle.composer.proofs.lead.answer.drop_one.Goals as goal
 
-pub returns-then-n-eq0 : goal.returns-then-n-eq0
+pub returns-then-beats-eq0 : goal.returns-then-beats-eq0
 unfolding drop_one_of
-returns-then-n-eq0 c = record { value = rw (eq-eqb _ _ c.if-n-eq0.true); n_bound = search rules }
+returns-then-beats-eq0 c = record { value = rw (eq-eqb _ _ c.if-beats-eq0.true); n_bound = search rules }
 
-pub remove-left-requires : goal.remove-left-requires
-remove-left-requires c =
-    let n = c.args.d.beats.n in
+pub remove-requires : goal.remove-requires
+remove-requires c =
+    let n = c.args.d.value.n in
     (rw c.pick-k.ensures (pick_lt _ n (omega arith)), search rules)
 
-pub returns-then-c : goal.returns-then-c
+pub returns-then-drops : goal.returns-then-drops
 unfolding drop_one_of
-returns-then-c c =
-    record { value = rw (ne_eqb _ _ c.if-n-eq0.false, ← c.chance-c.ensures, c.if-c.true, ← c.pick-k.ensures, c.remove-left.ensures.value); n_bound = search rules }
+returns-then-drops c =
+    record { value = rw (ne_eqb _ _ c.if-beats-eq0.false, ← c.chance-drops.ensures, c.if-drops.true, ← c.pick-k.ensures, c.remove.ensures.value); n_bound = search rules }
 
-pub returns : goal.returns
+pub returns-else-drops : goal.returns-else-drops
 unfolding drop_one_of
-returns c =
-    record { value = rw (ne_eqb _ _ c.if-n-eq0.false, ← c.chance-c.ensures, c.if-c.false); n_bound = search rules }
+returns-else-drops c =
+    record { value = rw (ne_eqb _ _ c.if-beats-eq0.false, ← c.chance-drops.ensures, c.if-drops.false); n_bound = search rules }

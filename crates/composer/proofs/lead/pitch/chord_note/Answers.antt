@@ -6,15 +6,14 @@ use borrow.Author.Rules.{rules}
 use Rattle.composer.proofs.lead.pitch.chord_note.Goals as goal
 
 pub overflow_add-prev : goal.overflow_add-prev
-overflow_add-prev c = omega (arith, picked_below _ 9 c.pick-p.ensures (omega arith))
+overflow_add-prev c = omega (arith, picked_below _ 9 c.pick-drift.ensures (omega arith))
 
-pub near-n-requires : goal.near-n-requires
-near-n-requires c = rw c.tones_for-t.ensures (search rules)
+pub near-requires : goal.near-requires
+near-requires c = rw c.tones_for-t.ensures (search rules)
 
-pub bounded-m-requires : goal.bounded-m-requires
-bounded-m-requires c = rw c.tones_for-t.ensures (search rules)
+pub bounded-requires : goal.bounded-requires
+bounded-requires c = rw c.tones_for-t.ensures (search rules)
 
 pub returns : goal.returns
 unfolding chord_note_of
-returns c =
-    rw (c.bounded-m.ensures, c.near-n.ensures, c.held-target.ensures, c.tones_for-t.ensures, c.pick-p.ensures)
+returns c = search rules

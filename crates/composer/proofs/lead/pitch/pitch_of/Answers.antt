@@ -5,8 +5,8 @@ use Rattle.composer.specs.Lead.Pitch.{pitch_of}
 use Rattle.composer.proofs.lead.PitchLaws.{tones_for_tuned}
 use Rattle.composer.proofs.lead.pitch.pitch_of.Goals as goal
 
-pub bounds-h-i : goal.bounds-h-i
-bounds-h-i c =
+pub bounds-l-p : goal.bounds-l-p
+bounds-l-p c =
     let q : c.args.p.i < c.args.l.heads = rw c.in-Quote.is at c.requires.quotable in
     omega (arith, c.requires.fit.heads)
 
@@ -23,7 +23,7 @@ returns-in-Quote c = rw c.in-Quote.is
 
 pub returns-in-Close : goal.returns-in-Close
 unfolding pitch_of
-returns-in-Close c = rw (c.in-Close.is, c.close_note-n.ensures)
+returns-in-Close c = rw (c.in-Close.is, c.close_note.ensures)
 
 pub returns-in-Peak : goal.returns-in-Peak
 unfolding pitch_of
@@ -31,7 +31,7 @@ returns-in-Peak c = rw c.in-Peak.is c.peak_note.ensures
 
 pub returns-in-Resolve : goal.returns-in-Resolve
 unfolding pitch_of
-returns-in-Resolve c = rw (c.in-Resolve.is, c.resolve_note-n.ensures)
+returns-in-Resolve c = rw (c.in-Resolve.is, c.resolve_note.ensures)
 
 pub returns-in-ChordTone : goal.returns-in-ChordTone
 unfolding pitch_of

@@ -11,9 +11,9 @@ use Rattle.composer.proofs.lead.StatementLaws.{kept_to, Sounding, sounding_none,
 use borrow.Author.Rules.{rules}
 use Rattle.composer.proofs.lead.statement.statement_bar.Goals as goal
 
-pub returns-then-r : goal.returns-then-r
+pub returns-then-rests : goal.returns-then-rests
 unfolding statement_bar_of pad
-returns-then-r c = record { value = rw (← c.draw-r.ensures, c.if-r.true); n_bound = search rules }
+returns-then-rests c = record { value = rw (← c.draw-rests.ensures, c.if-rests.true); n_bound = search rules }
 
 pub loop-i-init : goal.loop-i-init
 loop-i-init c = (omega arith, search rules, sounding_none _ _ _)
@@ -67,8 +67,8 @@ loop-i-2-preserved c =
 pub slice_bounds-settle-end : goal.slice_bounds-settle-end
 slice_bounds-settle-end c = sym c.loop-i-2.invariant.2.written.size
 
-pub settle-done-requires : goal.settle-done-requires
-settle-done-requires c =
+pub settle-requires : goal.settle-requires
+settle-requires c =
     let l = c.loop-i-2 in
     let k = c.loop-i-2.invariant.2.written.size in
     (omega arith, omega arith)
@@ -79,9 +79,9 @@ returns c =
     let l = c.loop-i-2 in
     let u = c.loop-i in
     let p = c.args.style.note_p in
-    let s = c.draw-r.result.stream in
+    let s = c.draw-rests.result.stream in
     let e : u.i ≡ 7 = omega arith in
     let f : l.i ≡ 7 = omega arith in
     let sounds = subst (λ (i : ℕ). Sounding p s u.sounds u.stream i) e u.invariant.2 in
     let held = subst (λ (i : ℕ). Held (foldl push_on_of (empty_from u.stream) (kept_to u.sounds i)) l.at l.n l.stream) f l.invariant.2 in
-    record { value = rw (← c.draw-r.ensures, c.if-r.false) (statement_done p s u.sounds u.stream l.at l.n l.stream c.settle-done.result sounds held c.settle-done.ensures.value); n_bound = c.settle-done.ensures.n_bound }
+    record { value = rw (← c.draw-rests.ensures, c.if-rests.false) (statement_done p s u.sounds u.stream l.at l.n l.stream c.settle.result sounds held c.settle.ensures.value); n_bound = c.settle.ensures.n_bound }

@@ -9,7 +9,7 @@ use Rattle.composer.proofs.lead.StatementLaws.{kept_to, Sounding, Held}
 use Rattle.composer.proofs.lead.statement.statement_bar.Given as goal
 
 abbrev pub invariant-loop-i : goal.invariant-loop-i
-invariant-loop-i l = (l.i ≤ 7) × (length l.sounds ≡ 7) × Sounding l.p l.initial.stream l.sounds l.stream l.i
+invariant-loop-i l = (l.i ≤ 7) × (length l.sounds ≡ 7) × Sounding l.style.note_p l.initial.stream l.sounds l.stream l.i
 
 abbrev pub decreases-loop-i : goal.decreases-loop-i
 decreases-loop-i l = 7 - l.i
