@@ -125,15 +125,10 @@ pub(crate) fn harmony_of(s: NoiseStream, style: Style) -> Draw<Harmony>
 {
     let major = chance(s, major_share(style));
     let row = pick(major.stream, rows(major.value));
-    let key = pick(row.stream, OCTAVE);
-    let harmony = Harmony {
-        scale: melody_pcs(key.value, major.value),
-        bars: chords(key.value, loop_at(major.value, row.value)),
-    };
-    Draw {
-        value: harmony,
-        stream: key.stream,
-    }
+    pick(row.stream, OCTAVE).map(|key| Harmony {
+        scale: melody_pcs(key, major.value),
+        bars: chords(key, loop_at(major.value, row.value)),
+    })
 }
 
 // The four notes of each bar's chord.

@@ -22,11 +22,7 @@ fn rounded(x: f32) -> u64
 pub(crate) fn beats(s: NoiseStream, style: Style) -> Draw<u8>
     ensures { result ≡ tempo_draw_of s style }
 {
-    let d = bpm(style).draw(s);
-    Draw {
-        value: rounded(d.value) as u8,
-        stream: d.stream,
-    }
+    bpm(style).draw(s).map(|x| rounded(x) as u8)
 }
 
 // The same as a float, which a song's times are worked out from.

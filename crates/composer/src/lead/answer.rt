@@ -78,16 +78,9 @@ fn drop_one(d: Draw<Beats>) -> Draw<Beats>
     }
     let drops = chance(d.stream, DROP_P);
     if drops.value {
-        let k = pick(drops.stream, beats.n as u8);
-        Draw {
-            value: remove(beats, k.value as usize),
-            stream: k.stream,
-        }
+        pick(drops.stream, beats.n as u8).map(|k| remove(beats, k as usize))
     } else {
-        Draw {
-            value: beats,
-            stream: drops.stream,
-        }
+        drops.map(|_| beats)
     }
 }
 

@@ -79,12 +79,7 @@ fn peak_note(s: NoiseStream, g: Ground, prev: u8) -> Draw<u8>
     requires { (prev < 200) × (0 < g.strong.n) × (g.strong.n ≤ 20) }
     ensures { result ≡ peak_note_of s g prev }
 {
-    let lift = pick(s, PEAK_LIFTS);
-    let target = lower(prev + PEAK_LIFT + lift.value, g.hi);
-    Draw {
-        value: near(g.strong, target),
-        stream: lift.stream,
-    }
+    pick(s, PEAK_LIFTS).map(|lift| near(g.strong, lower(prev + PEAK_LIFT + lift, g.hi)))
 }
 
 // A step against the leap from `from` to prev.
@@ -100,13 +95,11 @@ fn chord_note(s: NoiseStream, g: Ground, strong: bool, prev: u8) -> Draw<u8>
     requires { (4 ≤ prev) × (prev < 200) × (g.lo ≤ g.hi) × (0 < (tones_for_of g strong).n) × ((tones_for_of g strong).n ≤ 20) }
     ensures { result ≡ chord_note_of s g strong prev }
 {
-    let drift = pick(s, DRIFTS);
     let t = tones_for(g, strong);
-    let target = held(prev + drift.value - DRIFT, g.lo, g.hi);
-    Draw {
-        value: bounded(t, near(t, target), prev),
-        stream: drift.stream,
-    }
+    pick(s, DRIFTS).map(|drift| {
+        let target = held(prev + drift - DRIFT, g.lo, g.hi);
+        bounded(t, near(t, target), prev)
+    })
 }
 
 // A coin for the way, then the chance to skip.
@@ -115,12 +108,7 @@ fn passing_note(s: NoiseStream, pool: &[bool], g: Ground, prev: u8) -> Draw<u8>
     ensures { result ≡ passing_note_of s pool.now g prev }
 {
     let up = coin(s);
-    let skip = chance(up.stream, SKIP_P);
-    let degrees = steps(skip.value);
-    Draw {
-        value: scale_step(pool, g.lo, g.hi, prev, up.value, degrees),
-        stream: skip.stream,
-    }
+    chance(up.stream, SKIP_P).map(|skip| scale_step(pool, g.lo, g.hi, prev, up.value, steps(skip)))
 }
 
 // The pitch of the note at p; `first` is the melody's first note.

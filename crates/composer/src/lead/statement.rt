@@ -43,10 +43,7 @@ pub(crate) fn statement_bar(s: NoiseStream, style: LeadStyle) -> Draw<Beats>
 {
     let rests = style.rest_p.draw(s);
     if rests.value {
-        return Draw {
-            value: NO_BEATS,
-            stream: rests.stream,
-        };
+        return rests.map(|_| NO_BEATS);
     }
     let mut sounds = [false; 7];
     let mut stream = rests.stream;

@@ -13,7 +13,7 @@ use Rattle.composer.proofs.lead.statement.statement_bar.Goals as goal
 
 pub returns-then-rests : goal.returns-then-rests
 unfolding statement_bar_of pad
-returns-then-rests c = record { value = rw (← c.draw-rests.ensures, c.if-rests.true); n_bound = search rules }
+returns-then-rests c = search rules
 
 pub loop-i-init : goal.loop-i-init
 loop-i-init c = (omega arith, search rules, sounding_none _ _ _)
