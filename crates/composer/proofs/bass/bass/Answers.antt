@@ -21,9 +21,6 @@ loop-i-init c =
     let played = ap (λ (x : BassLane). x.count) l.invariant.1 in
     (omega arith, refl, rw (c.root_class-in-loop-b.ensures, c.root_class.ensures) asks.0, omega (arith, asks.1, played), omega arith, refl)
 
-pub played_note-d-requires : goal.played_note-d-requires
-played_note-d-requires c = let l = c.loop-i in record { playable = l.invariant.2; i_lt_n = omega arith }
-
 pub loop-i-preserved : goal.loop-i-preserved
 loop-i-preserved c =
     let l = c.loop-i in

@@ -1,5 +1,4 @@
 -- A pick of 4 is one of the chord's notes. Assumes nothing.
-use borrow.Author.Rules.{rules}
 use mathlib.Core.Path.{ap}
 use Prim.Native.Nat.{ℕ}
 use native.Mathlib.Omega.{arith}
@@ -10,6 +9,3 @@ use Rattle.composer.proofs.keys.tone_at.Goals as goal
 pub bounds-chord-p : goal.bounds-chord-p
 bounds-chord-p c =
     omega (arith, ap (λ (d : Draw ℕ). d.value) c.pick-p.ensures, pick_lt c.args.s 4 (omega arith))
-
-pub returns : goal.returns
-returns c = search rules

@@ -1,13 +1,10 @@
 -- What is left to try from step i on is the answer, and the loop stops at the first that comes. Assumes nothing.
-use mathlib.Core.Path.{◌≡◌, refl, sym, ap, ◌∙◌}
+use mathlib.Core.Path.{◌≡◌, sym, ap, ◌∙◌}
 use borrow.Author.Rules.{rules}
 use native.Mathlib.Omega.{arith}
 use Rattle.composer.specs.Bass.Rhythm.{root_step_of}
 use Rattle.composer.proofs.bass.RhythmLaws.{root_hit, root_miss, root_last}
 use Rattle.composer.proofs.bass.rhythm.root_step.Goals as goal
-
-pub loop-i-init : goal.loop-i-init
-loop-i-init c = (omega arith, refl)
 
 pub returns-then-c : goal.returns-then-c
 unfolding root_step_of

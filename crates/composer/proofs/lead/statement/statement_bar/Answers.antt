@@ -1,5 +1,5 @@
 -- The rest decides; the first loop tells which slots sound, and the second pushes those. Assumes nothing.
-use mathlib.Core.Path.{◌≡◌, sym, ap, subst, ◌∙◌}
+use mathlib.Core.Path.{◌≡◌, ap, subst, ◌∙◌}
 use mathlib.Core.List.{foldl}
 use Prim.Native.Nat.{ℕ}
 use native.Mathlib.Omega.{arith}
@@ -18,15 +18,6 @@ returns-then-rests c = search rules
 pub loop-i-init : goal.loop-i-init
 loop-i-init c = (omega arith, search rules, sounding_none _ _ _)
 
-pub bounds-sounds-i : goal.bounds-sounds-i
-bounds-sounds-i c = omega arith
-
-pub overflow_step-i : goal.overflow_step-i
-overflow_step-i c = omega arith
-
-pub loop-i-smaller : goal.loop-i-smaller
-loop-i-smaller c = omega arith
-
 pub loop-i-preserved : goal.loop-i-preserved
 loop-i-preserved c =
     let l = c.loop-i in
@@ -36,42 +27,12 @@ pub loop-i-2-init : goal.loop-i-2-init
 unfolding kept_to
 loop-i-2-init c = (omega arith, omega arith, held_none c.loop-i.stream)
 
-pub overflow_cast-heard : goal.overflow_cast-heard
-overflow_cast-heard c = omega arith
-
-pub bounds-sounds-i-in-loop-i-2 : goal.bounds-sounds-i-in-loop-i-2
-bounds-sounds-i-in-loop-i-2 c = omega arith
-
-pub offset_bounds-at-n : goal.offset_bounds-at-n
-offset_bounds-at-n c = omega arith
-
-pub bounds-at-n : goal.bounds-at-n
-bounds-at-n c = omega arith
-
-pub overflow_add-n : goal.overflow_add-n
-overflow_add-n c = omega arith
-
-pub overflow_step-i-in-loop-i-2 : goal.overflow_step-i-in-loop-i-2
-overflow_step-i-in-loop-i-2 c = omega arith
-
-pub loop-i-2-smaller : goal.loop-i-2-smaller
-loop-i-2-smaller c = omega arith
-
 pub loop-i-2-preserved : goal.loop-i-2-preserved
 loop-i-2-preserved c =
     let l = c.loop-i-2 in
     let u = c.loop-i in
     let pushed = c.push-d.ensures ∙ ap (push_of l.stream) c.grid_beat.ensures in
     (omega arith, omega arith, held_turn u.sounds u.stream l.i l.at l.n l.stream c.push-d.result c.notes-n.result c.after-stream.result (omega arith) l.invariant.2 pushed c.notes-n.ensures.value c.after-stream.ensures)
-
-pub slice_bounds-settle-end : goal.slice_bounds-settle-end
-slice_bounds-settle-end c = sym c.loop-i-2.invariant.2.written.size
-
-pub settle-requires : goal.settle-requires
-settle-requires c =
-    let l = c.loop-i-2 in
-    let k = c.loop-i-2.invariant.2.written.size in
-    (omega arith, omega arith)
 
 pub returns : goal.returns
 unfolding statement_bar_of
