@@ -32,19 +32,17 @@ fn root_step(s: NoiseStream) -> Draw<u8>
 {
     let mut left = first_beat_sum();
     let mut stream = s;
-    let mut i: usize = 0;
-    while i < 3 {
-        let p = BASS_STEP_P[i];
+    for step in 0..3u8 {
+        let p = BASS_STEP_P[step as usize];
         let c = chance(stream, p / left);
         if c.value {
             return Draw {
-                value: i as u8,
+                value: step,
                 stream: c.stream,
             };
         }
-        left = left - p;
+        left -= p;
         stream = c.stream;
-        i += 1;
     }
     chance(stream, BASS_STEP_P[3] / left).map(|_| 3)
 }
