@@ -1,7 +1,7 @@
 -- After i turns the first i beats are varied. Assumes nothing.
 use mathlib.Core.Path.{◌≡◌}
 use mathlib.Core.List.{List, foldl}
-use Prim.Native.Nat.{ℕ, ◌≤◌, ◌-◌}
+use Prim.Native.Nat.{ℕ, ◌≤◌}
 use lib.ListN.{take}
 use lib.Ieee.{Float}
 use Rattle.streams.specs.declared.stream.NoiseStream.{NoiseStream}
@@ -16,6 +16,3 @@ held_of at stream n = record { value = record { at = at; n = n }; stream = strea
 
 abbrev pub invariant-loop-i : goal.invariant-loop-i
 invariant-loop-i l = (l.i ≤ l.b.n) × (held_of l.at l.stream l.i ≡ foldl vary_of (empty_from l.initial.stream) (take l.i l.b.at))
-
-abbrev pub decreases-loop-i : goal.decreases-loop-i
-decreases-loop-i l = l.b.n - l.i
