@@ -12,6 +12,7 @@ use Rattle.laws.proofs.Lists.{replicate_at, pad_past}
 use Rattle.streams.specs.Stage.{stream_of}
 use Rattle.streams.specs.declared.stage.Stage.{Stage}
 use Rattle.streams.specs.declared.stream.NoiseStream.{NoiseStream}
+use Rattle.streams.specs.declared.stream.Draw.{Draw}
 use Rattle.composer.specs.Bass.{bass_of}
 use Rattle.composer.specs.Chord.{past_chord}
 use Rattle.composer.specs.Compose.{beat_s_of, song_by, composed_of, style_by, compose_of}
@@ -31,15 +32,13 @@ use Rattle.composer.specs.declared.bass.BassLane.{BassLane}
 use Rattle.composer.specs.declared.compose.Composed.{Composed}
 use Rattle.composer.specs.declared.drums.DrumLane.{DrumLane}
 use Rattle.composer.specs.declared.harmony.Harmony.{Harmony}
-use Rattle.composer.specs.declared.harmony.HarmonyDraw.{HarmonyDraw}
 use Rattle.composer.specs.declared.harmony.Scale.{Scale}
 use Rattle.composer.specs.declared.keys.KeysLane.{KeysLane}
 use Rattle.composer.specs.declared.lead.LeadLane.{LeadLane}
 use Rattle.composer.specs.declared.refusal.Refusal.{Refusal}
 use Rattle.composer.specs.declared.score.Score.{Score}
-use Rattle.composer.specs.declared.spread.Drawn.{Drawn}
 use Rattle.composer.specs.declared.style.Style.{Style}
-use Rattle.composer.specs.declared.voice.VoiceDraw.{VoiceDraw}
+use Rattle.composer.specs.declared.voice.LeadVoice.{LeadVoice}
 use Rattle.composer.proofs.ChordLaws.{root_size, root_within}
 use Rattle.composer.proofs.DrumsLaws.{drums_laid, drums_occur, drums_few, drums_counter}
 use Rattle.composer.proofs.HarmonyLaws.{harmony_tonal, harmony_count, harmony_counter, tonal_root}
@@ -66,13 +65,13 @@ pub compose_refused : (style seed : ℕ) → 2 ≤ style → answered (compose_o
 compose_refused style seed h = rw (unknown_style style seed h)
 
 -- the song of draws that are each its definition's
-pub composed_by : (style : Style) (seed : ℕ) {hs ts ls ks ds bs vs : NoiseStream} {h : HarmonyDraw} {t : Drawn} {beat : Float} {l : LeadLane} {k : KeysLane} {d : DrumLane} {b : BassLane} {v : VoiceDraw}
+pub composed_by : (style : Style) (seed : ℕ) {hs ts ls ks ds bs vs : NoiseStream} {h : Draw Harmony} {t : Draw Float} {beat : Float} {l : LeadLane} {k : KeysLane} {d : DrumLane} {b : BassLane} {v : Draw LeadVoice}
     → hs ≡ stream_of Stage.Harmony seed → h ≡ harmony_of hs style
     → ts ≡ stream_of Stage.Tempo seed → t ≡ tempo_of ts style → beat ≡ beat_s_of t.value
-    → ls ≡ stream_of Stage.Lead seed → l ≡ lead_of ls h.harmony style beat
-    → ks ≡ stream_of Stage.Keys seed → k ≡ keys_of ks h.harmony style beat
+    → ls ≡ stream_of Stage.Lead seed → l ≡ lead_of ls h.value style beat
+    → ks ≡ stream_of Stage.Keys seed → k ≡ keys_of ks h.value style beat
     → ds ≡ stream_of Stage.Drums seed → d ≡ drums_of ds style beat
-    → bs ≡ stream_of Stage.Bass seed → b ≡ bass_of bs h.harmony style beat
+    → bs ≡ stream_of Stage.Bass seed → b ≡ bass_of bs h.value style beat
     → vs ≡ stream_of Stage.LeadVoice seed → v ≡ lead_voice_of vs style
     → song_by style h t l k d b v ≡ composed_of style seed
 unfolding composed_of
@@ -124,7 +123,7 @@ lead_window Style.Sleep n l m = record { least = omega arith; most = omega arith
 
 module _ (style : Style) (seed : ℕ) where
   abbrev harmony : Harmony
-  harmony = (harmony_of (stream_of Stage.Harmony seed) style).harmony
+  harmony = (harmony_of (stream_of Stage.Harmony seed) style).value
 
   abbrev beat_s : Float
   beat_s = beat_s_of (tempo_of (stream_of Stage.Tempo seed) style).value

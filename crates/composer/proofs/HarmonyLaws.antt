@@ -70,7 +70,7 @@ bar_at_lem key row k h =
 
 module _ (s : NoiseStream) (style : Style) where
   -- a key, a scale of it, and in each bar a chord of it
-  pub harmony_tonal : Tonal (harmony_of s style).harmony
+  pub harmony_tonal : Tonal (harmony_of s style).value
   unfolding harmony_of harmony_in chords_of
   harmony_tonal =
       let a = chance_of s (major_share_of style) in
@@ -87,7 +87,7 @@ module _ (s : NoiseStream) (style : Style) where
         bar = λ k h. bar_at_lem c.value row k (subst (λ (n : ℕ). k < n) (sym (row_length a.value b.value (pick_lt a.stream (rows_of a.value) (rows_some a.value)))) h);
       }
 
-  pub harmony_count : length (harmony_of s style).harmony.bars ≡ 8
+  pub harmony_count : length (harmony_of s style).value.bars ≡ 8
   unfolding harmony_of harmony_in chords_of
   harmony_count =
       let a = chance_of s (major_share_of style) in

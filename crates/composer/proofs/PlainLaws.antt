@@ -21,7 +21,7 @@ use Rattle.composer.proofs.lead.PlainLaws.{lead_plain}
 pub plain_numbers : (style : Style) (seed : ℕ) → PlainPromise (composed_of style seed).score
 unfolding composed_of song_by tempo_of
 plain_numbers style seed =
-    let h = (harmony_of (stream_of Stage.Harmony seed) style).harmony in
+    let h = (harmony_of (stream_of Stage.Harmony seed) style).value in
     let tonal = harmony_tonal (stream_of Stage.Harmony seed) style in
     let n = beats_of (stream_of Stage.Tempo seed) style in
     let tempo = tempo_between (stream_of Stage.Tempo seed) style in

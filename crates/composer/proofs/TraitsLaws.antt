@@ -31,7 +31,7 @@ scale_first key true h = omega arith
 scale_first key false h = omega arith
 
 -- a harmony's scale starts with what its third draw picks
-harmony_first : (s : NoiseStream) (style : Style) → get_or (harmony_of s style).harmony.scale.pcs 0 0 ≡ picked_of (unit_at s 3) 12
+harmony_first : (s : NoiseStream) (style : Style) → get_or (harmony_of s style).value.scale.pcs 0 0 ≡ picked_of (unit_at s 3) 12
 unfolding harmony_of harmony_in
 harmony_first s style =
     let a = chance_of s (major_share_of style) in

@@ -43,4 +43,4 @@ no_bass s = record { notes = replicate 104 no_note; count = 0; stream = s }
 unfoldable pub bass_of : NoiseStream → Harmony → Style → Float → BassLane
 bass_of s h style beatS =
     let r = bass_rhythms_of s in
-    bars_played h.bars r.bars (bass_style_of style) beatS (no_bass r.stream) 8
+    bars_played h.bars r.value (bass_style_of style) beatS (no_bass r.stream) 8

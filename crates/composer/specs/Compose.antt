@@ -4,6 +4,7 @@ use Rattle.std.specs.Float.{binary32}
 use Rattle.std.specs.Float.Ieee.{of_bits, div}
 use Rattle.streams.specs.Stage.{stream_of}
 use Rattle.streams.specs.declared.stage.Stage.{Stage}
+use Rattle.streams.specs.declared.stream.Draw.{Draw}
 use Rattle.composer.specs.Bass.{bass_of}
 use Rattle.composer.specs.Chord.{no_chord}
 use Rattle.composer.specs.Drums.{drums_of}
@@ -17,27 +18,25 @@ use Rattle.composer.specs.Voice.{lead_voice_of}
 use Rattle.composer.specs.declared.bass.BassLane.{BassLane}
 use Rattle.composer.specs.declared.compose.Composed.{Composed}
 use Rattle.composer.specs.declared.drums.DrumLane.{DrumLane}
-use Rattle.composer.specs.declared.harmony.HarmonyDraw.{HarmonyDraw}
 use Rattle.composer.specs.declared.keys.KeysLane.{KeysLane}
 use Rattle.composer.specs.declared.lead.LeadLane.{LeadLane}
 use Rattle.composer.specs.declared.refusal.Refusal.{Refusal}
 use Rattle.composer.specs.declared.score.Score.{Score}
-use Rattle.composer.specs.declared.spread.Drawn.{Drawn}
 use Rattle.composer.specs.declared.style.Style.{Style}
 use Rattle.composer.specs.declared.voice.LeadVoice.{LeadVoice}
-use Rattle.composer.specs.declared.voice.VoiceDraw.{VoiceDraw}
+use Rattle.composer.specs.declared.harmony.Harmony.{Harmony}
 
 -- a beat is 60 / tempo
 abbrev pub beat_s_of : Float → Float
 beat_s_of bpm = div binary32 (of_bits binary32 0x4270_0000) bpm
 
 -- the song of what each stage has drawn
-unfoldable pub song_by : Style → HarmonyDraw → Drawn → LeadLane → KeysLane → DrumLane → BassLane → VoiceDraw → Composed
+unfoldable pub song_by : Style → Draw Harmony → Draw Float → LeadLane → KeysLane → DrumLane → BassLane → Draw LeadVoice → Composed
 song_by style h t l k d b v = record {
   score = record {
     style = style;
     bpm = t.value;
-    bar_chords = h.harmony.bars;
+    bar_chords = h.value.bars;
     lead = l.notes;
     lead_count = l.count;
     keys = k.notes;
@@ -46,9 +45,9 @@ song_by style h t l k d b v = record {
     hit_count = d.count;
     bass = b.notes;
     bass_count = b.count;
-    lead_voice = v.voice;
+    lead_voice = v.value;
   };
-  scale = h.harmony.scale;
+  scale = h.value.scale;
   -- how many draws each stream has made
   counters = record {
     harmony = h.stream.counter;
@@ -67,10 +66,10 @@ composed_of style seed =
     let h = harmony_of (stream_of Stage.Harmony seed) style in
     let t = tempo_of (stream_of Stage.Tempo seed) style in
     let beatS = beat_s_of t.value in
-    let lead = lead_of (stream_of Stage.Lead seed) h.harmony style beatS in
-    let keys = keys_of (stream_of Stage.Keys seed) h.harmony style beatS in
+    let lead = lead_of (stream_of Stage.Lead seed) h.value style beatS in
+    let keys = keys_of (stream_of Stage.Keys seed) h.value style beatS in
     let drums = drums_of (stream_of Stage.Drums seed) style beatS in
-    let bass = bass_of (stream_of Stage.Bass seed) h.harmony style beatS in
+    let bass = bass_of (stream_of Stage.Bass seed) h.value style beatS in
     let voice = lead_voice_of (stream_of Stage.LeadVoice seed) style in
     song_by style h t lead keys drums bass voice
 

@@ -3,13 +3,13 @@ use Rattle.std.specs.Prelude.{◌≡◌, Bool, true, false, List, [], ◌∷◌,
 use Rattle.laws.specs.Lists.{pad}
 use Rattle.streams.specs.Draw.{pick_of, chance_of}
 use Rattle.streams.specs.declared.stream.NoiseStream.{NoiseStream}
+use Rattle.streams.specs.declared.stream.Draw.{Draw}
 use Rattle.composer.specs.Chord.{degree_at, past_chord, voiced_of}
 use Rattle.composer.specs.Style.{major_share_of}
 use Rattle.composer.specs.declared.chord.Chord.{Chord}
 use Rattle.composer.specs.declared.style.Style.{Style}
 use Rattle.composer.specs.declared.harmony.Scale.{Scale}
 use Rattle.composer.specs.declared.harmony.Harmony.{Harmony}
-use Rattle.composer.specs.declared.harmony.HarmonyDraw.{HarmonyDraw}
 
 -- ---- the loops, a degree for each bar, every row repeated to eight
 abbrev pub major_loops : List (List ℕ)
@@ -94,12 +94,12 @@ unfoldable pub harmony_in : Bool → ℕ → ℕ → Harmony
 harmony_in major row key = record { scale = melody_pcs_of key major; bars = chords_of key (loop_at major row) }
 
 -- major or minor, the row, the key
-unfoldable pub harmony_of : NoiseStream → Style → HarmonyDraw
+unfoldable pub harmony_of : NoiseStream → Style → Draw Harmony
 harmony_of s style =
     let a = chance_of s (major_share_of style) in
     let b = pick_of a.stream (rows_of a.value) in
     let c = pick_of b.stream 12 in
-    record { harmony = harmony_in a.value b.value c.value; stream = c.stream }
+    record { value = harmony_in a.value b.value c.value; stream = c.stream }
 
 -- ---- what the other stages ask of a harmony: some key's scale, and in each bar one of its chords
 pub record Tonal (h : Harmony) : Type 0 where

@@ -5,6 +5,7 @@ use Rattle.std.specs.Float.Ieee.{of_bits, add, mul, div}
 use Rattle.laws.specs.Floats.{f32_of}
 use Rattle.streams.specs.Draw.{chance_of, pick_of}
 use Rattle.streams.specs.declared.stream.NoiseStream.{NoiseStream}
+use Rattle.streams.specs.declared.stream.Draw.{Draw}
 use Rattle.composer.specs.Chord.{root_class_of, in_octave_from, past_chord}
 use Rattle.composer.specs.Note.{no_note}
 use Rattle.composer.specs.Spread.{draw_of, after_of}
@@ -14,16 +15,14 @@ use Rattle.composer.specs.declared.chord.Chord.{Chord}
 use Rattle.composer.specs.declared.harmony.Harmony.{Harmony}
 use Rattle.composer.specs.declared.note.Note.{Note}
 use Rattle.composer.specs.declared.note.NoteRole.{NoteRole}
-use Rattle.composer.specs.declared.spread.Drawn.{Drawn}
 use Rattle.composer.specs.declared.spread.Spread.{Spread}
 use Rattle.composer.specs.declared.style.Comp.{Comp}
 use Rattle.composer.specs.declared.style.Density.{Density}
 use Rattle.composer.specs.declared.style.KeysStyle.{KeysStyle}
 use Rattle.composer.specs.declared.style.Style.{Style}
-use Rattle.composer.specs.declared.keys.Dyad.{Dyad}
 use Rattle.composer.specs.declared.keys.KeysLane.{KeysLane}
 use Rattle.composer.specs.declared.keys.Shell.{Shell}
-use Rattle.composer.specs.declared.keys.Tone.{Tone}
+use Rattle.composer.specs.declared.keys.Dyad.{Dyad}
 
 -- ---- the shell: third and seventh, found from the root
 -- a note's class lies a or b above the root's
@@ -68,7 +67,7 @@ abbrev pub ninth_p : Float
 ninth_p = of_bits binary32 0x3e4c_cccd
 
 -- one draw, or none where it is fixed
-unfoldable pub density_draw_of : Density → NoiseStream → Drawn
+unfoldable pub density_draw_of : Density → NoiseStream → Draw Float
 density_draw_of (Density.Drawn spread) s = draw_of spread s
 density_draw_of (Density.Fixed p) s = record { value = p; stream = s }
 
@@ -90,7 +89,7 @@ grid_at bar e beatS =
     cond (eqb (e % 2) 1) (add binary32 at (swing_delay_of swing_keys eighth)) at
 
 -- ---- a stroke by itself: the ninth's chance, the velocity and the roll are drawn, or the pick and the velocity
-abbrev pub dyad_of : NoiseStream → Shell → ℕ → KeysStyle → ℕ → Float → Dyad
+abbrev pub dyad_of : NoiseStream → Shell → ℕ → KeysStyle → ℕ → Float → Draw Dyad
 dyad_of s shell root k bar at =
     let ninth = chance_of s ninth_p in
     let high = upper_of ninth.value shell.seventh root in
@@ -98,24 +97,24 @@ dyad_of s shell root k bar at =
     let rolled = after_of roll at vel.stream in
     let lower : Note = record { bar = bar; role = NoteRole.Backing; spare = 0; at = at; midi = shell.third; vel = vel.value; dur = k.dur } in
     let higher : Note = record { bar = bar; role = NoteRole.Backing; spare = 0; at = rolled.value; midi = high; vel = mul binary32 vel.value rolled_softer; dur = k.dur } in
-    record { lower = lower; higher = higher; stream = rolled.stream }
+    record { value = record { lower = lower; higher = higher }; stream = rolled.stream }
 
-abbrev pub tone_of : NoiseStream → Chord → KeysStyle → ℕ → Float → Tone
+abbrev pub tone_of : NoiseStream → Chord → KeysStyle → ℕ → Float → Draw Note
 tone_of s c k bar at =
     let p = pick_of s 4 in
     let vel = draw_of k.velocity p.stream in
-    record { note = record { bar = bar; role = NoteRole.Backing; spare = 0; at = at; midi = get_or c.notes p.value 0; vel = vel.value; dur = k.dur }; stream = vel.stream }
+    record { value = record { bar = bar; role = NoteRole.Backing; spare = 0; at = at; midi = get_or c.notes p.value 0; vel = vel.value; dur = k.dur }; stream = vel.stream }
 
 -- ---- a stroke on the lane
 unfoldable pub shell_stroke_of : KeysLane → Chord → KeysStyle → ℕ → Float → KeysLane
 shell_stroke_of l c k bar at =
     let dyad = dyad_of l.stream (shell_of c) (root_class_of c) k bar at in
-    moved_of (push_of (push_of l dyad.lower) dyad.higher) dyad.stream
+    moved_of (push_of (push_of l dyad.value.lower) dyad.value.higher) dyad.stream
 
 unfoldable pub single_stroke_of : KeysLane → Chord → KeysStyle → ℕ → Float → KeysLane
 single_stroke_of l c k bar at =
     let tone = tone_of l.stream c k bar at in
-    moved_of (push_of l tone.note) tone.stream
+    moved_of (push_of l tone.value) tone.stream
 
 abbrev pub stroke_by : Comp → KeysLane → Chord → KeysStyle → ℕ → Float → KeysLane
 stroke_by Comp.Shell l c k bar at = shell_stroke_of l c k bar at

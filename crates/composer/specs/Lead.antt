@@ -33,7 +33,7 @@ unfoldable pub sung_of : NoiseStream → Harmony → Style → Sung
 sung_of s h style =
     let l = lead_style_of style in
     let r = rhythm_of s l in
-    melody_of r.stream r.bars h.bars (pool_of h.scale) l
+    melody_of r.stream r.value h.bars (pool_of h.scale) l
 
 -- after all notes of the melody, each is played
 unfoldable pub lead_of : NoiseStream → Harmony → Style → Float → LeadLane

@@ -30,4 +30,4 @@ pub record RolesPromise (s : Score) : Type 0 where
 abbrev pub RolesTold : Style → ℕ → Type 0
 RolesTold style seed =
     let score = (composed_of style seed).score in
-    LeadTold (stream_of Stage.Lead seed) (harmony_of (stream_of Stage.Harmony seed) style).harmony style score.lead score.lead_count
+    LeadTold (stream_of Stage.Lead seed) (harmony_of (stream_of Stage.Harmony seed) style).value style score.lead score.lead_count

@@ -1,10 +1,10 @@
 -- The two styles, and every setting their songs are written with. Definitions only.
-use Rattle.std.specs.Prelude.{false, ℕ, zero, suc, Float, Result, Ok, Err}
+use Rattle.std.specs.Prelude.{Bool, false, ℕ, zero, suc, Float, Result, Ok, Err}
 use Rattle.std.specs.Float.{binary32}
 use Rattle.std.specs.Float.Ieee.{of_bits}
 use Rattle.streams.specs.Draw.{chance_of}
 use Rattle.streams.specs.declared.stream.NoiseStream.{NoiseStream}
-use Rattle.streams.specs.declared.draw.ChanceDraw.{ChanceDraw}
+use Rattle.streams.specs.declared.stream.Draw.{Draw}
 use Rattle.composer.specs.Spread.{between_of}
 use Rattle.composer.specs.declared.refusal.Refusal.{Refusal}
 use Rattle.composer.specs.declared.spread.Spread.{Spread}
@@ -29,7 +29,7 @@ style_named (suc zero) = Ok Sleep
 style_named (suc (suc n)) = Err Refusal.UnknownStyle
 
 -- what a style never does takes no draw
-unfoldable pub odds_of : Odds → NoiseStream → ChanceDraw
+unfoldable pub odds_of : Odds → NoiseStream → Draw Bool
 odds_of Odds.Never s = record { value = false; stream = s }
 odds_of (Odds.Chance p) s = chance_of s p
 

@@ -2,11 +2,11 @@
 use Rattle.std.specs.Prelude.{List, [], ◌∷◌, ℕ, get_or, Float}
 use Rattle.streams.specs.Stream.{after, unit_at}
 use Rattle.streams.specs.declared.stream.NoiseStream.{NoiseStream}
+use Rattle.streams.specs.declared.stream.Draw.{Draw}
 use Rattle.composer.specs.Band.{band_of}
 use Rattle.composer.specs.declared.style.Style.{Style}
 use Rattle.composer.specs.declared.voice.LeadVoice.{LeadVoice}
 use Rattle.composer.specs.declared.voice.LeadVoice.TheVariants.{EpVel, Pluck, Kalimba, Vibraphone}
-use Rattle.composer.specs.declared.voice.VoiceDraw.{VoiceDraw}
 
 -- document 01's number of each voice
 abbrev pub voice_number_of : LeadVoice → ℕ
@@ -28,5 +28,5 @@ unfoldable pub voice_by : Style → Float → LeadVoice
 voice_by style u = get_or (voices_of style) (band_of u (voice_weights_of style)) EpVel
 
 -- draw 1
-unfoldable pub lead_voice_of : NoiseStream → Style → VoiceDraw
-lead_voice_of s style = record { voice = voice_by style (unit_at s 1); stream = after s 1 }
+unfoldable pub lead_voice_of : NoiseStream → Style → Draw LeadVoice
+lead_voice_of s style = record { value = voice_by style (unit_at s 1); stream = after s 1 }

@@ -26,40 +26,32 @@ pub(crate) fn bass(s: NoiseStream, h: Harmony, style: Style, beat_s: f32) -> Bas
     requires { Tonal h }
     ensures { result ≡ bass_of s h style beat_s }
 {
-    let chords = h.bars;
     let knobs = bass_style(style);
-    let r = bass_rhythms(s);
-    let rhythms = r.bars;
+    let rhythms = bass_rhythms(s);
     let mut notes = [NO_NOTE; 104];
     let mut count: usize = 0;
-    let mut stream = r.stream;
+    let mut stream = rhythms.stream;
     for b in 0..8usize {
         // Bar 0 follows bar 7.
         let next = (b + 1) % 8;
-        let chord = chords[b];
-        let root_pc = chord.root_class();
-        let next_chord = chords[next];
-        let next_pc = next_chord.root_class();
-        let steps = rhythms[b];
-        let next_steps = rhythms[next];
+        let steps = rhythms.value[b];
         let part = BarPart {
             bar: b as u8,
-            root_pc: root_pc,
-            next_pc: next_pc,
-            steps: steps,
-            next_step: next_steps.at[0],
+            root_pc: h.bars[b].root_class(),
+            next_pc: h.bars[next].root_class(),
+            steps,
+            next_step: rhythms.value[next].at[0],
         };
         for i in 0..steps.n {
             let d = played_note(stream, part, knobs, beat_s, i);
-            let note = d.note;
-            notes[count] = note;
+            notes[count] = d.value;
             count += 1;
             stream = d.stream;
         }
     }
     BassLane {
-        notes: notes,
-        count: count,
-        stream: stream,
+        notes,
+        count,
+        stream,
     }
 }

@@ -37,7 +37,7 @@ fn composed_of(style: Style, seed: u64) -> Composed
 {
     let hs = Stage::Harmony.stream(seed);
     let hd = harmony_of(hs, style);
-    let h = hd.harmony;
+    let h = hd.value;
     let ts = Stage::Tempo.stream(seed);
     let td = tempo(ts, style);
     let beat_s = beat_s_of(td.value);
@@ -57,7 +57,7 @@ fn composed_of(style: Style, seed: u64) -> Composed
     let keys_notes = kd.notes;
     let hits = dd.hits;
     let bass_notes = bd.notes;
-    let voice = vd.voice;
+    let voice = vd.value;
     let score = Score {
         style: style,
         bpm: td.value,

@@ -56,15 +56,13 @@ fn lay_groove(s: NoiseStream, g: Groove, beat_s: f32) -> DrumLane
         let kicks = kick_count(g, bar);
         for k in 0..kicks {
             let d = kick_hit(stream, bar, g.drag_s, kick_of(g, k));
-            let hit = d.hit;
-            hits[count] = hit;
+            hits[count] = d.value;
             count += 1;
             stream = d.stream;
         }
         for i in 0..g.snare_count {
             let d = snare_hit(stream, bar, g.snares[i], g.snare_gain);
-            let hit = d.hit;
-            hits[count] = hit;
+            hits[count] = d.value;
             count += 1;
             stream = d.stream;
         }
@@ -79,16 +77,15 @@ fn lay_groove(s: NoiseStream, g: Groove, beat_s: f32) -> DrumLane
                 continue;
             }
             let d = hat_hit(stream, g, bar, e);
-            let hit = d.hit;
-            hits[count] = hit;
+            hits[count] = d.value;
             count += 1;
             stream = d.stream;
         }
     }
     DrumLane {
-        hits: hits,
-        count: count,
-        stream: stream,
+        hits,
+        count,
+        stream,
     }
 }
 
@@ -99,9 +96,7 @@ pub(crate) fn drums(s: NoiseStream, style: Style, beat_s: f32) -> DrumLane
     match style {
         Style::Hiphop => {
             let p = pick(s, 4);
-            let g = hiphop_groove(p.value);
-            let next = p.stream;
-            lay_groove(next, g, beat_s)
+            lay_groove(p.stream, hiphop_groove(p.value), beat_s)
         }
         Style::Sleep => lay_groove(s, SLEEP_GROOVE, beat_s),
     }

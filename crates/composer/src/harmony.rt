@@ -5,7 +5,7 @@ ghost use Rattle.composer.specs.Harmony.{rows_of, loop_at, class_in, melody_pcs_
 use crate::chord::{Chord, NO_CHORD, OCTAVE, voiced};
 use crate::style::{Style, major_share};
 use streams::draw::{chance, pick};
-use streams::stream::NoiseStream;
+use streams::stream::{Draw, NoiseStream};
 
 // The pitch classes that the lead sings: the first n.
 #[derive(Clone, Copy)]
@@ -18,13 +18,6 @@ pub struct Scale {
 pub struct Harmony {
     pub scale: Scale,
     pub bars: [Chord; 8],
-}
-
-// A harmony, and the stream after its draws.
-#[derive(Clone, Copy)]
-pub struct HarmonyDraw {
-    pub harmony: Harmony,
-    pub stream: NoiseStream,
 }
 
 // The loops of the grammar, a degree for each bar, every row repeated to eight.
@@ -127,30 +120,15 @@ fn chords(key: u8, row: [u8; 8]) -> [Chord; 8]
 }
 
 // A harmony of the style, from three draws: major or minor, the loop, the key.
-pub(crate) fn harmony_of(s: NoiseStream, style: Style) -> HarmonyDraw
+pub(crate) fn harmony_of(s: NoiseStream, style: Style) -> Draw<Harmony>
     ensures { result ≡ harmony_of s style }
 {
-    let share = major_share(style);
-    let a = chance(s, share);
-    let major = a.value;
-    let sa = a.stream;
-    let n = rows(major);
-    let b = pick(sa, n);
-    let sb = b.stream;
-    let c = pick(sb, OCTAVE);
-    let key = c.value;
-    let scale = melody_pcs(key, major);
-    let row = loop_at(major, b.value);
-    let bars = chords(key, row);
-    let next = c.stream;
-    let harmony = Harmony {
-        scale: scale,
-        bars: bars,
-    };
-    HarmonyDraw {
-        harmony: harmony,
-        stream: next,
-    }
+    let major = chance(s, major_share(style));
+    let row = pick(major.stream, rows(major.value));
+    pick(row.stream, OCTAVE).map(|key| Harmony {
+        scale: melody_pcs(key, major.value),
+        bars: chords(key, loop_at(major.value, row.value)),
+    })
 }
 
 // The four notes of each bar's chord.

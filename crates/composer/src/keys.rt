@@ -7,11 +7,11 @@ ghost use Rattle.composer.specs.Keys.{shell_of, placed_shell, upper_of, density_
 use crate::chord::{Chord, OCTAVE, in_octave_from};
 use crate::harmony::Harmony;
 use crate::note::{NO_NOTE, Note, NoteRole};
-use crate::spread::{Drawn, Spread};
+use crate::spread::Spread;
 use crate::style::{Comp, Density, KeysStyle, Style, keys_style};
 use crate::timing::{bar_start, swing_delay};
 use streams::draw::{chance, pick};
-use streams::stream::NoiseStream;
+use streams::stream::{Draw, NoiseStream};
 
 // A ninth's pitch class above the root's: a whole tone.
 const NINTH: u8 = 2;
@@ -51,19 +51,11 @@ pub struct KeysLane {
     pub stream: NoiseStream,
 }
 
-// A struck shell, and the stream after its draws.
+// A struck shell.
 #[derive(Clone, Copy)]
 pub struct Dyad {
     pub lower: Note,
     pub higher: Note,
-    pub stream: NoiseStream,
-}
-
-// A struck chord tone, and the stream after its draws.
-#[derive(Clone, Copy)]
-pub struct Tone {
-    pub note: Note,
-    pub stream: NoiseStream,
 }
 
 // The chord's shell: where a chord is root, third, fifth and seventh, they are found in these places.
@@ -91,12 +83,12 @@ fn upper(ninth: bool, seventh: u8, root_pc: u8) -> u8
 }
 
 // The chance that an eighth strikes: one draw, or none where it is fixed.
-fn density_draw(d: Density, s: NoiseStream) -> Drawn
+fn density_draw(d: Density, s: NoiseStream) -> Draw<f32>
     ensures { result ≡ density_draw_of d s }
 {
     match d {
         Density::Drawn(spread) => spread.draw(s),
-        Density::Fixed(p) => Drawn {
+        Density::Fixed(p) => Draw {
             value: p,
             stream: s,
         },
@@ -117,26 +109,25 @@ fn grid_at(bar: u8, e: u8, beat_s: f32) -> f32
 }
 
 // The shell at `at`, its upper voice a little later.
-fn dyad_at(s: NoiseStream, shell: Shell, chord: Chord, k: KeysStyle, bar: u8, at: f32) -> Dyad
+fn dyad_at(s: NoiseStream, shell: Shell, chord: Chord, k: KeysStyle, bar: u8, at: f32) -> Draw<Dyad>
     requires { shell.seventh ≤ 244 }
     ensures { result ≡ dyad_of s shell (root_class_of chord) k bar at }
 {
     let ninth = chance(s, NINTH_P);
-    let root_pc = chord.root_class();
-    let high = upper(ninth.value, shell.seventh, root_pc);
+    let high = upper(ninth.value, shell.seventh, chord.root_class());
     let vel = k.velocity.draw(ninth.stream);
     let rolled = ROLL.after(at, vel.stream);
     let lower = Note {
-        bar: bar,
+        bar,
         role: NoteRole::Backing,
         spare: 0,
-        at: at,
+        at,
         midi: shell.third,
         vel: vel.value,
         dur: k.dur,
     };
     let higher = Note {
-        bar: bar,
+        bar,
         role: NoteRole::Backing,
         spare: 0,
         at: rolled.value,
@@ -144,36 +135,27 @@ fn dyad_at(s: NoiseStream, shell: Shell, chord: Chord, k: KeysStyle, bar: u8, at
         vel: vel.value * ROLLED_SOFTER,
         dur: k.dur,
     };
-    let next = rolled.stream;
-    Dyad {
-        lower: lower,
-        higher: higher,
-        stream: next,
+    Draw {
+        value: Dyad { lower, higher },
+        stream: rolled.stream,
     }
 }
 
 // One chord tone at `at`.
-fn tone_at(s: NoiseStream, chord: Chord, k: KeysStyle, bar: u8, at: f32) -> Tone
+fn tone_at(s: NoiseStream, chord: Chord, k: KeysStyle, bar: u8, at: f32) -> Draw<Note>
     ensures { result ≡ tone_of s chord k bar at }
 {
     let p = pick(s, 4);
-    let notes = chord.notes;
-    let midi = notes[p.value as usize];
-    let vel = k.velocity.draw(p.stream);
-    let note = Note {
-        bar: bar,
+    let midi = chord.notes[p.value as usize];
+    k.velocity.draw(p.stream).map(|vel| Note {
+        bar,
         role: NoteRole::Backing,
         spare: 0,
-        at: at,
-        midi: midi,
-        vel: vel.value,
+        at,
+        midi,
+        vel,
         dur: k.dur,
-    };
-    let next = vel.stream;
-    Tone {
-        note: note,
-        stream: next,
-    }
+    })
 }
 
 // The comp of all eight bars: each eighth is struck with the density's chance. The notes stay in one
@@ -183,8 +165,7 @@ pub(crate) fn keys(s: NoiseStream, h: Harmony, style: Style, beat_s: f32) -> Key
     ensures { result ≡ keys_of s h style beat_s }
 {
     let k = keys_style(style);
-    let d = k.density;
-    let density = density_draw(d, s);
+    let density = density_draw(k.density, s);
     let mut notes = [NO_NOTE; 128];
     let mut count: usize = 0;
     let mut stream = density.stream;
@@ -199,21 +180,17 @@ pub(crate) fn keys(s: NoiseStream, h: Harmony, style: Style, beat_s: f32) -> Key
             }
             let lag = KEYS_LAG.draw(stream);
             let at = grid_at(b, e, beat_s) + lag.value;
-            let comp = k.comp;
-            match comp {
+            match k.comp {
                 Comp::Shell => {
                     let dyad = dyad_at(lag.stream, shell, chord, k, b, at);
-                    let lower = dyad.lower;
-                    let higher = dyad.higher;
-                    notes[count] = lower;
-                    notes[count + 1] = higher;
+                    notes[count] = dyad.value.lower;
+                    notes[count + 1] = dyad.value.higher;
                     count += 2;
                     stream = dyad.stream;
                 }
                 Comp::Single => {
                     let tone = tone_at(lag.stream, chord, k, b, at);
-                    let note = tone.note;
-                    notes[count] = note;
+                    notes[count] = tone.value;
                     count += 1;
                     stream = tone.stream;
                 }
@@ -221,8 +198,8 @@ pub(crate) fn keys(s: NoiseStream, h: Harmony, style: Style, beat_s: f32) -> Key
         }
     }
     KeysLane {
-        notes: notes,
-        count: count,
-        stream: stream,
+        notes,
+        count,
+        stream,
     }
 }

@@ -41,12 +41,8 @@ pub(crate) fn lead(s: NoiseStream, h: Harmony, style: Style, beat_s: f32) -> Lea
     ensures { result ≡ lead_of s h style beat_s }
 {
     let l = lead_style(style);
-    let r = rhythm_of(s, l);
-    let beats = r.bars;
-    let next = r.stream;
-    let bars = h.bars;
-    let scale = h.scale;
-    let pool = pool_of(scale);
-    let m = melody(next, beats, bars, &pool, l);
+    let rhythm = rhythm_of(s, l);
+    let pool = pool_of(h.scale);
+    let m = melody(rhythm.stream, rhythm.value, h.bars, &pool, l);
     played(m, beat_s, l.dur)
 }

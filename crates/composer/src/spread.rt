@@ -2,7 +2,7 @@
 ghost use Rattle.std.specs.Prelude.{◌≡◌};
 ghost use Rattle.composer.specs.Spread.{between_of, draw_of, after_of, jitter_of};
 
-use streams::stream::NoiseStream;
+use streams::stream::{Draw, NoiseStream};
 
 // A uniform draw from `base` up to `base + span`.
 #[derive(Clone, Copy)]
@@ -18,13 +18,6 @@ pub struct Jitter {
     pub width: f32,
 }
 
-// What was drawn, and the stream after its draw.
-#[derive(Clone, Copy)]
-pub struct Drawn {
-    pub value: f32,
-    pub stream: NoiseStream,
-}
-
 // The spread from lo up to hi.
 pub(crate) fn between(lo: f32, hi: f32) -> Spread
     ensures { result ≡ between_of lo hi }
@@ -37,40 +30,25 @@ pub(crate) fn between(lo: f32, hi: f32) -> Spread
 
 impl Spread {
     // A value of the spread, from one draw.
-    pub fn draw(self, s: NoiseStream) -> Drawn
+    pub fn draw(self, s: NoiseStream) -> Draw<f32>
         ensures { result ≡ draw_of self s }
     {
-        let d = s.unit();
-        let next = d.stream;
-        Drawn {
-            value: self.base + self.span * d.value,
-            stream: next,
-        }
+        s.unit().map(|u| self.base + self.span * u)
     }
 
     // t, delayed by a value of the spread, from one draw.
-    pub fn after(self, t: f32, s: NoiseStream) -> Drawn
+    pub fn after(self, t: f32, s: NoiseStream) -> Draw<f32>
         ensures { result ≡ after_of self t s }
     {
-        let d = s.unit();
-        let next = d.stream;
-        Drawn {
-            value: t + self.base + self.span * d.value,
-            stream: next,
-        }
+        s.unit().map(|u| t + self.base + self.span * u)
     }
 }
 
 impl Jitter {
     // A time before or after the grid, from one draw.
-    pub fn draw(self, s: NoiseStream) -> Drawn
+    pub fn draw(self, s: NoiseStream) -> Draw<f32>
         ensures { result ≡ jitter_of self s }
     {
-        let d = s.unit();
-        let next = d.stream;
-        Drawn {
-            value: (d.value - self.early) * self.width,
-            stream: next,
-        }
+        s.unit().map(|u| (u - self.early) * self.width)
     }
 }

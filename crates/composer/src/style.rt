@@ -4,8 +4,8 @@ ghost use Rattle.composer.specs.Style.{style_number_of, style_named, odds_of, ma
 
 use crate::refusal::Refusal;
 use crate::spread::{Spread, between};
-use streams::draw::{ChanceDraw, chance};
-use streams::stream::NoiseStream;
+use streams::draw::chance;
+use streams::stream::{Draw, NoiseStream};
 
 #[derive(Clone, Copy, Debug, PartialEq, Eq)]
 pub enum Style {
@@ -49,11 +49,11 @@ pub enum Odds {
 
 impl Odds {
     // Yes by its chance; where there is none, no without a draw.
-    pub fn draw(self, s: NoiseStream) -> ChanceDraw
+    pub fn draw(self, s: NoiseStream) -> Draw<bool>
         ensures { result ≡ odds_of self s }
     {
         match self {
-            Odds::Never => ChanceDraw {
+            Odds::Never => Draw {
                 value: false,
                 stream: s,
             },

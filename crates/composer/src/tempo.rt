@@ -4,17 +4,9 @@ ghost use Rattle.std.specs.Float.Ieee.{to_unsigned};
 ghost use Rattle.laws.specs.Floats.{round_of};
 ghost use Rattle.composer.specs.Tempo.{tempo_draw_of, tempo_of};
 
-use crate::spread::Drawn;
 use crate::style::{Style, bpm};
 use streams::float::truncated;
-use streams::stream::NoiseStream;
-
-// The tempo as a whole number, and the stream after its draw.
-#[derive(Clone, Copy)]
-pub struct TempoDraw {
-    pub beats: u8,
-    pub stream: NoiseStream,
-}
+use streams::stream::{Draw, NoiseStream};
 
 // The whole number nearest to x, halves away from zero.
 fn rounded(x: f32) -> u64
@@ -27,27 +19,15 @@ fn rounded(x: f32) -> u64
 }
 
 // The beats per minute, a whole number of the style's window, from one draw.
-pub(crate) fn beats(s: NoiseStream, style: Style) -> TempoDraw
+pub(crate) fn beats(s: NoiseStream, style: Style) -> Draw<u8>
     ensures { result ≡ tempo_draw_of s style }
 {
-    let window = bpm(style);
-    let d = window.draw(s);
-    let n = rounded(d.value);
-    let next = d.stream;
-    TempoDraw {
-        beats: n as u8,
-        stream: next,
-    }
+    bpm(style).draw(s).map(|x| rounded(x) as u8)
 }
 
 // The same as a float, which a song's times are worked out from.
-pub(crate) fn tempo(s: NoiseStream, style: Style) -> Drawn
+pub(crate) fn tempo(s: NoiseStream, style: Style) -> Draw<f32>
     ensures { result ≡ tempo_of s style }
 {
-    let d = beats(s, style);
-    let next = d.stream;
-    Drawn {
-        value: d.beats as f32,
-        stream: next,
-    }
+    beats(s, style).map(|n| n as f32)
 }

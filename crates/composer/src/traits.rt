@@ -23,25 +23,19 @@ pub struct Traits {
 fn drawn_key(seed: u64) -> u8
     ensures { result ≡ drawn_key seed }
 {
-    let s = Stage::Harmony.stream(seed);
-    let third = s.skipped(2);
-    let d = pick(third, OCTAVE);
-    d.value
+    let third = Stage::Harmony.stream(seed).skipped(2);
+    pick(third, OCTAVE).value
 }
 
 // The traits of the song that a style and a seed give. It is not composed: three draws tell them.
 pub fn traits_of(style: Style, seed: u64) -> Traits
     ensures { result ≡ traits_in (composed_of style seed) }
 {
-    let key = drawn_key(seed);
     let ts = Stage::Tempo.stream(seed);
-    let td = beats(ts, style);
     let vs = Stage::LeadVoice.stream(seed);
-    let vd = lead_voice(vs, style);
-    let voice = vd.voice;
     Traits {
-        key: key,
-        tempo: td.beats,
-        voice: voice,
+        key: drawn_key(seed),
+        tempo: beats(ts, style).value,
+        voice: lead_voice(vs, style).value,
     }
 }

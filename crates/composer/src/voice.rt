@@ -4,7 +4,7 @@ ghost use Rattle.composer.specs.Voice.{voice_number_of, voice_by, lead_voice_of}
 
 use crate::band::band;
 use crate::style::Style;
-use streams::stream::NoiseStream;
+use streams::stream::{Draw, NoiseStream};
 
 #[derive(Clone, Copy)]
 pub enum LeadVoice {
@@ -12,13 +12,6 @@ pub enum LeadVoice {
     Pluck,
     Kalimba,
     Vibraphone,
-}
-
-// A voice, and the stream after its draw.
-#[derive(Clone, Copy)]
-pub struct VoiceDraw {
-    pub voice: LeadVoice,
-    pub stream: NoiseStream,
 }
 
 // The voices of each style and their weights.
@@ -61,14 +54,8 @@ fn voice_by(style: Style, u: f32) -> LeadVoice
 }
 
 // The voice of a song in the style, from one draw.
-pub(crate) fn lead_voice(s: NoiseStream, style: Style) -> VoiceDraw
+pub(crate) fn lead_voice(s: NoiseStream, style: Style) -> Draw<LeadVoice>
     ensures { result ≡ lead_voice_of s style }
 {
-    let d = s.unit();
-    let voice = voice_by(style, d.value);
-    let next = d.stream;
-    VoiceDraw {
-        voice: voice,
-        stream: next,
-    }
+    s.unit().map(|u| voice_by(style, u))
 }

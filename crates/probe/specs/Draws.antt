@@ -1,34 +1,31 @@
 -- Runs of draws as numbers. Definitions only.
-use Rattle.std.specs.Prelude.{◌≡◌, Bool, true, false, List, ℕ, length}
+use Rattle.std.specs.Prelude.{◌≡◌, Bool, true, false, List, ℕ, length, Float}
 use Rattle.std.specs.Float.{binary32}
 use Rattle.std.specs.Float.Ieee.{to_bits}
 use Rattle.laws.specs.Lists.{list_to}
 use Rattle.streams.specs.Stream.{after, next_u64_of, unit_of}
 use Rattle.streams.specs.Draw.{pick_of, chance_of, coin_of}
 use Rattle.streams.specs.declared.stream.NoiseStream.{NoiseStream}
-use Rattle.streams.specs.declared.stream.WordDraw.{WordDraw}
-use Rattle.streams.specs.declared.stream.UnitDraw.{UnitDraw}
-use Rattle.streams.specs.declared.draw.PickDraw.{PickDraw}
-use Rattle.streams.specs.declared.draw.ChanceDraw.{ChanceDraw}
+use Rattle.streams.specs.declared.stream.Draw.{Draw}
 use Rattle.probe.specs.declared.draws.Kind.{Kind}
 
 abbrev pub stream_at : ℕ → ℕ → NoiseStream
 stream_at seed counter = record { seed = seed; counter = counter }
 
-abbrev pub unit_word_of : UnitDraw → WordDraw
+abbrev pub unit_word_of : Draw Float → Draw ℕ
 unit_word_of d = record { value = to_bits binary32 d.value; stream = d.stream }
 
-abbrev pub pick_word_of : PickDraw → WordDraw
+abbrev pub pick_word_of : Draw ℕ → Draw ℕ
 pick_word_of d = record { value = d.value; stream = d.stream }
 
 abbrev pub flag_of : Bool → ℕ
 flag_of true = 1
 flag_of false = 0
 
-abbrev pub chance_word_of : ChanceDraw → WordDraw
+abbrev pub chance_word_of : Draw Bool → Draw ℕ
 chance_word_of d = record { value = flag_of d.value; stream = d.stream }
 
-unfoldable pub drawn_of : Kind → NoiseStream → WordDraw
+unfoldable pub drawn_of : Kind → NoiseStream → Draw ℕ
 drawn_of Kind.Word s = next_u64_of s
 drawn_of Kind.Unit s = unit_word_of (unit_of s)
 drawn_of (Kind.Pick n) s = pick_word_of (pick_of s n)

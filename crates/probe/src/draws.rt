@@ -1,12 +1,12 @@
 // Runs of draws of one kind, from a stream with any seed and counter, over the whole of `out`. Each
 // answers the counter that its stream is left with.
 ghost use Rattle.std.specs.Prelude.{◌≡◌};
-ghost use Rattle.probe.specs.Draws.{stream_at, unit_word_of, pick_word_of, chance_word_of, drawn_of, Ran};
+ghost use Rattle.probe.specs.Draws.{stream_at, drawn_of, Ran};
 ghost use Rattle.probe.specs.declared.draws.Kind.{Kind};
 
-use streams::draw::{ChanceDraw, PickDraw, chance, coin, pick};
+use streams::draw::{chance, coin, pick};
 use streams::float::bits_of;
-use streams::stream::{NoiseStream, UnitDraw, WordDraw};
+use streams::stream::{Draw, NoiseStream};
 
 // What is drawn.
 #[derive(Clone, Copy)]
@@ -18,49 +18,16 @@ pub enum Kind {
     Coin,
 }
 
-// A unit by its bits.
-fn unit_word(d: UnitDraw) -> WordDraw
-    ensures { result ≡ unit_word_of d }
-{
-    let bits = bits_of(d.value);
-    let next = d.stream;
-    WordDraw {
-        value: bits as u64,
-        stream: next,
-    }
-}
-
-fn pick_word(d: PickDraw) -> WordDraw
-    ensures { result ≡ pick_word_of d }
-{
-    let next = d.stream;
-    WordDraw {
-        value: d.value as u64,
-        stream: next,
-    }
-}
-
-// 1 for yes.
-fn chance_word(d: ChanceDraw) -> WordDraw
-    ensures { result ≡ chance_word_of d }
-{
-    let next = d.stream;
-    WordDraw {
-        value: u64::from(d.value),
-        stream: next,
-    }
-}
-
-// One draw, as a number.
-fn drawn(kind: Kind, s: NoiseStream) -> WordDraw
+// One draw, as a number: a unit by its bits, 1 for yes.
+fn drawn(kind: Kind, s: NoiseStream) -> Draw<u64>
     ensures { result ≡ drawn_of kind s }
 {
     match kind {
         Kind::Word => s.next_u64(),
-        Kind::Unit => unit_word(s.unit()),
-        Kind::Pick(n) => pick_word(pick(s, n)),
-        Kind::Chance(p) => chance_word(chance(s, p)),
-        Kind::Coin => chance_word(coin(s)),
+        Kind::Unit => s.unit().map(|u| bits_of(u) as u64),
+        Kind::Pick(n) => pick(s, n).map(|k| k as u64),
+        Kind::Chance(p) => chance(s, p).map(|yes| u64::from(yes)),
+        Kind::Coin => coin(s).map(|yes| u64::from(yes)),
     }
 }
 

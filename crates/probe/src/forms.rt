@@ -168,9 +168,7 @@ pub fn probe_form_counter(seed: u64) -> u64
     ensures draws { result ≡ 29 }
 {
     let s = Stage::Form.stream(seed);
-    let d = decide(s);
-    let after = d.stream;
-    after.counter
+    decide(s).stream.counter
 }
 
 // The layers of a bar of the seed's form with other parts, or minus the number of the refusal. Its

@@ -6,8 +6,7 @@ use Rattle.std.specs.Float.Ieee.Exact.{HasValue}
 use Rattle.laws.specs.Floats.{f32_of}
 use Rattle.streams.specs.Mix.{splitmix_draw_of}
 use Rattle.streams.specs.declared.stream.NoiseStream.{NoiseStream}
-use Rattle.streams.specs.declared.stream.WordDraw.{WordDraw}
-use Rattle.streams.specs.declared.stream.UnitDraw.{UnitDraw}
+use Rattle.streams.specs.declared.stream.Draw.{Draw}
 
 abbrev pub new_of : ℕ → NoiseStream
 new_of seed = record { seed = seed; counter = 0 }
@@ -20,7 +19,7 @@ after s n = record { seed = s.seed; counter = (s.counter + n) % 2 ^ 64 }
 unfoldable pub word_at : NoiseStream → ℕ → ℕ
 word_at s n = splitmix_draw_of s.seed ((s.counter + n) % 2 ^ 64)
 
-unfoldable pub next_u64_of : NoiseStream → WordDraw
+unfoldable pub next_u64_of : NoiseStream → Draw ℕ
 next_u64_of s = record { value = word_at s 1; stream = after s 1 }
 
 -- a unit by its top 24 bits k: k / 2 ^ 24
@@ -32,7 +31,7 @@ unit_by k = div binary32 (f32_of k) (of_bits binary32 0x4b80_0000)
 unfoldable pub unit_at : NoiseStream → ℕ → Float
 unit_at s n = unit_by (word_at s n / 2 ^ 40)
 
-unfoldable pub unit_of : NoiseStream → UnitDraw
+unfoldable pub unit_of : NoiseStream → Draw Float
 unit_of s = record { value = unit_at s 1; stream = after s 1 }
 
 -- u is the unit of the top bits k: exactly k / 2 ^ 24, at least 0 and below 1

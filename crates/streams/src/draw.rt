@@ -3,19 +3,7 @@ ghost use Rattle.std.specs.Prelude.{◌≡◌, ◌^◌, ◌≤◌, min};
 ghost use Rattle.streams.specs.Draw.{picked_of, pick_of, chance_of, coin_of};
 
 use crate::float::truncated;
-use crate::stream::NoiseStream;
-
-#[derive(Clone, Copy)]
-pub struct PickDraw {
-    pub value: u8,
-    pub stream: NoiseStream,
-}
-
-#[derive(Clone, Copy)]
-pub struct ChanceDraw {
-    pub value: bool,
-    pub stream: NoiseStream,
-}
+use crate::stream::{Draw, NoiseStream};
 
 // n, or 2^24 where n is more: up to there an f32 has every whole number.
 fn exact(n: u32) -> u32
@@ -49,32 +37,21 @@ pub fn picked(u: f32, n: u8) -> u8
 }
 
 // One of n, from one draw: below n, 0 where n is 0.
-pub fn pick(s: NoiseStream, n: u8) -> PickDraw
+pub fn pick(s: NoiseStream, n: u8) -> Draw<u8>
     ensures { result ≡ pick_of s n }
 {
-    let d = s.unit();
-    let value = picked(d.value, n);
-    let next = d.stream;
-    PickDraw {
-        value: value,
-        stream: next,
-    }
+    s.unit().map(|u| picked(u, n))
 }
 
 // Yes with the chance p, from one draw.
-pub fn chance(s: NoiseStream, p: f32) -> ChanceDraw
+pub fn chance(s: NoiseStream, p: f32) -> Draw<bool>
     ensures { result ≡ chance_of s p }
 {
-    let d = s.unit();
-    let next = d.stream;
-    ChanceDraw {
-        value: d.value < p,
-        stream: next,
-    }
+    s.unit().map(|u| u < p)
 }
 
 // A fair coin, from one draw.
-pub fn coin(s: NoiseStream) -> ChanceDraw
+pub fn coin(s: NoiseStream) -> Draw<bool>
     ensures { result ≡ coin_of s }
 {
     chance(s, 0.5)

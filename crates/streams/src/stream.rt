@@ -12,15 +12,23 @@ pub struct NoiseStream {
 
 // A draw beside the stream that has made it.
 #[derive(Clone, Copy)]
-pub struct WordDraw {
-    pub value: u64,
+pub struct Draw<T> {
+    pub value: T,
     pub stream: NoiseStream,
 }
 
-#[derive(Clone, Copy)]
-pub struct UnitDraw {
-    pub value: f32,
-    pub stream: NoiseStream,
+impl<T> Draw<T> {
+    // What is made of the value; the stream stays as it is.
+    pub fn map<U, F: FnOnce(T) -> U>(self, f: F) -> Draw<U>
+        requires { F.pre f self.value }
+        ensures value { F.post f self.value result.value }
+        ensures stream { result.stream ≡ self.stream }
+    {
+        Draw {
+            value: f(self.value),
+            stream: self.stream,
+        }
+    }
 }
 
 impl NoiseStream {
@@ -45,31 +53,24 @@ impl NoiseStream {
     }
 
     // The next 64 bits.
-    pub fn next_u64(self) -> WordDraw
+    pub fn next_u64(self) -> Draw<u64>
         ensures { result ≡ next_u64_of self }
     {
         let n = std::num::wrapping_add_u64(self.counter, 1);
-        let word = splitmix_draw(self.seed, n);
-        let next = NoiseStream {
+        let stream = NoiseStream {
             seed: self.seed,
             counter: n,
         };
-        WordDraw {
-            value: word,
-            stream: next,
+        Draw {
+            value: splitmix_draw(self.seed, n),
+            stream,
         }
     }
 
     // The next unit: the top 24 bits of the next draw, over 2^24. At least 0 and below 1.
-    pub fn unit(self) -> UnitDraw
+    pub fn unit(self) -> Draw<f32>
         ensures { result ≡ unit_of self }
     {
-        let d = self.next_u64();
-        let k = d.value >> 40;
-        let next = d.stream;
-        UnitDraw {
-            value: k as f32 / 16777216.0,
-            stream: next,
-        }
+        self.next_u64().map(|w| (w >> 40) as f32 / 16777216.0)
     }
 }

@@ -7,6 +7,7 @@ use native.Mathlib.Omega.{arith}
 use lib.ListN.{get_or}
 use lib.Ieee.{Float}
 use Rattle.streams.specs.declared.stream.NoiseStream.{NoiseStream}
+use Rattle.streams.specs.declared.stream.Draw.{Draw}
 use Rattle.composer.specs.Harmony.{Tonal}
 use Rattle.composer.specs.Bass.{part_of, bars_played}
 use Rattle.composer.specs.Bass.Rhythm.{Rising, past_steps, bass_rhythms_of}
@@ -16,11 +17,10 @@ use Rattle.composer.specs.declared.harmony.Harmony.{Harmony}
 use Rattle.composer.specs.declared.style.BassStyle.{BassStyle}
 use Rattle.composer.specs.declared.bass.BassLane.{BassLane}
 use Rattle.composer.specs.declared.bass.rhythm.Steps.{Steps}
-use Rattle.composer.specs.declared.bass.rhythm.Rhythms.{Rhythms}
 use Rattle.composer.proofs.bass.RhythmLaws.{rhythms_rising}
 use Rattle.composer.proofs.bass.LineLaws.{bar_count}
 
-pub drawn_rising : (r : Rhythms) (s : NoiseStream) → r ≡ bass_rhythms_of s → (b : ℕ) → b < 8 → Rising (get_or r.bars b past_steps) 16
+pub drawn_rising : (r : Draw (List Steps)) (s : NoiseStream) → r ≡ bass_rhythms_of s → (b : ℕ) → b < 8 → Rising (get_or r.value b past_steps) 16
 drawn_rising r s e b l = rw e (rhythms_rising s b l)
 
 module _ (h : Harmony) (tonal : Tonal h) where

@@ -12,6 +12,7 @@ use Rattle.laws.proofs.Bools.{either}
 use Rattle.laws.proofs.Lanes.{Grown, grown_none, grown_push, grown_then}
 use Rattle.streams.specs.Draw.{chance_of}
 use Rattle.streams.specs.declared.stream.NoiseStream.{NoiseStream}
+use Rattle.streams.specs.declared.stream.Draw.{Draw}
 use Rattle.composer.specs.Chord.{root_class_of, fifth_class_of}
 use Rattle.composer.specs.Note.{past_note}
 use Rattle.composer.specs.Range.{Within}
@@ -24,7 +25,6 @@ use Rattle.composer.specs.declared.style.BassStyle.{BassStyle}
 use Rattle.composer.specs.declared.bass.BassLane.{BassLane}
 use Rattle.composer.specs.declared.bass.line.BarPart.{BarPart}
 use Rattle.composer.specs.declared.bass.line.Strike.{Strike}
-use Rattle.composer.specs.declared.bass.line.PlayedNote.{PlayedNote}
 
 -- the chords that p is played over
 pub record Over (chord next : Chord) (p : BarPart) : Type 0 where
@@ -40,11 +40,11 @@ module _ (chord next : Chord) (p : BarPart) (over : Over chord next p) (style : 
   abbrev InBar : ℕ → Type 0
   InBar midi = Sounds chord next midi × Within 30 42 midi
 
-  root_sounds : (s : NoiseStream) (on : Float) → InBar (root_note_of s on p style).midi
+  root_sounds : (s : NoiseStream) (on : Float) → InBar (root_note_of s on p style).value.midi
   unfolding root_note_of struck_of
   root_sounds s on = (is_root (omega (arith, over.root_is)), record { least = omega arith; most = omega arith })
 
-  pickup_sounds : (s : NoiseStream) (on : Float) → InBar (pickup_note_of s on p).midi
+  pickup_sounds : (s : NoiseStream) (on : Float) → InBar (pickup_note_of s on p).value.midi
   unfolding pickup_note_of struck_of
   pickup_sounds s on = (is_under (omega (arith, over.next_is)), record { least = omega arith; most = omega arith })
 
@@ -52,18 +52,18 @@ module _ (chord next : Chord) (p : BarPart) (over : Over chord next p) (style : 
   later_pitch_sounds true = (is_fifth (omega (arith, over.fifth_is)), record { least = omega arith; most = omega arith })
   later_pitch_sounds false = (is_root (omega (arith, over.root_is)), record { least = omega arith; most = omega arith })
 
-  later_sounds : (s : NoiseStream) (on : Float) → InBar (later_note_of s on p style).midi
+  later_sounds : (s : NoiseStream) (on : Float) → InBar (later_note_of s on p style).value.midi
   unfolding later_note_of struck_of
   later_sounds s on = later_pitch_sounds (chance_of s style.fifth_p).value
 
-  note_sounds : (s : NoiseStream) (on : Float) (i : ℕ) → InBar (note_drawn_of s on p style i).midi
+  note_sounds : (s : NoiseStream) (on : Float) (i : ℕ) → InBar (note_drawn_of s on p style i).value.midi
   unfolding note_drawn_of
   note_sounds s on i =
       let c = pickup_drawn_of s p style i in
       let later = later_note_of c.stream on p style in
       let pickup = pickup_note_of c.stream on p in
-      either (λ (x : Strike). InBar x.midi) (eqb i 0) (root_note_of s on p style) (cond (c.value && ltb p.bar 7) pickup later) (root_sounds s on)
-      (either (λ (x : Strike). InBar x.midi) (c.value && ltb p.bar 7) pickup later (pickup_sounds c.stream on) (later_sounds c.stream on))
+      either (λ (x : Draw Strike). InBar x.value.midi) (eqb i 0) (root_note_of s on p style) (cond (c.value && ltb p.bar 7) pickup later) (root_sounds s on)
+      (either (λ (x : Draw Strike). InBar x.value.midi) (c.value && ltb p.bar 7) pickup later (pickup_sounds c.stream on) (later_sounds c.stream on))
 
   play_grown : (l : BassLane) (beatS : Float) (i : ℕ) → l.count < length l.notes
       → Grown past_note (NoteOf chord next p) l.notes (play_of l p style beatS i).notes l.count (play_of l p style beatS i).count
@@ -71,7 +71,7 @@ module _ (chord next : Chord) (p : BarPart) (over : Over chord next p) (style : 
   play_grown l beatS i room =
       let on = onset_of beatS p.bar (get_or p.steps.at i 0) in
       let d = note_drawn_of l.stream on p style i in
-      grown_push past_note (NoteOf chord next p) l.notes l.count (record { bar = p.bar; role = NoteRole.Backing; spare = 0; at = d.at; midi = d.midi; vel = d.vel; dur = held_of beatS (gap_of p i) d.at }) room
+      grown_push past_note (NoteOf chord next p) l.notes l.count (record { bar = p.bar; role = NoteRole.Backing; spare = 0; at = d.value.at; midi = d.value.midi; vel = d.value.vel; dur = held_of beatS (gap_of p i) d.value.at }) room
       (let n = note_sounds l.stream on i in (refl, n.0, n.1))
 
 module _ (l : BassLane) (p : BarPart) (style : BassStyle) (beatS : Float) where
@@ -81,8 +81,8 @@ module _ (l : BassLane) (p : BarPart) (style : BassStyle) (beatS : Float) where
   bar_count (suc i) = omega (arith, bar_count i)
 
   -- a note more
-  pub bar_on : (i : ℕ) (m : BassLane) (d : PlayedNote) → bar_played l p style beatS i ≡ m → d ≡ played_note_of m.stream p style beatS i
-      → bar_played l p style beatS (i + 1) ≡ record { notes = set m.notes m.count d.note; count = m.count + 1; stream = d.stream }
+  pub bar_on : (i : ℕ) (m : BassLane) (d : Draw Note) → bar_played l p style beatS i ≡ m → d ≡ played_note_of m.stream p style beatS i
+      → bar_played l p style beatS (i + 1) ≡ record { notes = set m.notes m.count d.value; count = m.count + 1; stream = d.stream }
   unfolding bar_played play_of
   bar_on i m d so_far drawn = rw (add-one, so_far, ← drawn)
 

@@ -21,6 +21,7 @@ use Rattle.laws.proofs.Runs.{every, every_at}
 use Rattle.laws.proofs.Sorts.{all_set}
 use Rattle.streams.specs.Draw.{chance_of}
 use Rattle.streams.specs.declared.stream.NoiseStream.{NoiseStream}
+use Rattle.streams.specs.declared.stream.Draw.{Draw}
 use Rattle.composer.specs.Bass.{part_of, bars_played, no_bass, bass_of}
 use Rattle.composer.specs.Bass.Line.{bass_lag, pickup_lag, pickup_velocity, bass_gate, step_s_of, loop_s_of, struck_of, root_note_of, pickup_note_of, later_velocity, later_note_of, pickup_drawn_of, note_drawn_of, gap_of, onset_of, held_of, played_note_of, play_of, bar_played, Playable}
 use Rattle.composer.specs.Bass.Rhythm.{step_p, first_beat_sum, root_from, root_step_of, more_steps, one_step_of, steps_to, root_alone, bass_rhythm_of, no_steps, past_steps, one_rhythm_of, rhythms_to, bass_rhythms_of, Rising}
@@ -41,8 +42,6 @@ use Rattle.composer.specs.declared.style.Style.TheVariants.{Hiphop, Sleep}
 use Rattle.composer.specs.declared.style.BassStyle.{BassStyle}
 use Rattle.composer.specs.declared.bass.BassLane.{BassLane}
 use Rattle.composer.specs.declared.bass.rhythm.Steps.{Steps}
-use Rattle.composer.specs.declared.bass.rhythm.StepsDraw.{StepsDraw}
-use Rattle.composer.specs.declared.bass.rhythm.Rhythms.{Rhythms}
 use Rattle.composer.specs.declared.bass.line.BarPart.{BarPart}
 use Rattle.composer.specs.declared.bass.line.Strike.{Strike}
 use Rattle.composer.proofs.RangeLaws.{between_in, stays, draw_in, after_in, draw_fits, after_fits, quickest, slowest, beat_in, bar_in_lem, start_in}
@@ -61,30 +60,30 @@ early_on : (b : Bool) (t : Steps) (step : ℕ) → (1 ≤ t.n) × Early t → (1
 early_on true t step o = let some = o.0 in (omega arith, rw (get_or-set_other t.at t.n 0 step 0 (λ q. omega arith)) o.1)
 early_on false t step o = o
 
-early_to : (d : StepsDraw) → (1 ≤ d.steps.n) × Early d.steps → (i : ℕ) → (1 ≤ (steps_to d i).steps.n) × Early (steps_to d i).steps
+early_to : (d : Draw Steps) → (1 ≤ d.value.n) × Early d.value → (i : ℕ) → (1 ≤ (steps_to d i).value.n) × Early (steps_to d i).value
 unfolding steps_to one_step_of
 early_to d o zero = o
-early_to d o (suc i) = early_on (chance_of (steps_to d i).stream (step_p (i + 4))).value (steps_to d i).steps (i + 4) (early_to d o i)
+early_to d o (suc i) = early_on (chance_of (steps_to d i).stream (step_p (i + 4))).value (steps_to d i).value (i + 4) (early_to d o i)
 
-rhythm_early : (s : NoiseStream) → Early (bass_rhythm_of s).steps
+rhythm_early : (s : NoiseStream) → Early (bass_rhythm_of s).value
 unfolding bass_rhythm_of root_step_of
 rhythm_early s = (early_to (root_alone (root_from s first_beat_sum 0 3)) (omega arith, omega (arith, root_le s first_beat_sum 0 3)) 12).1
 
-rhythms_to_lem : (r : Rhythms) → All Early r.bars → (b : ℕ) → All Early (rhythms_to r b).bars
+rhythms_to_lem : (r : Draw (List Steps)) → All Early r.value → (b : ℕ) → All Early (rhythms_to r b).value
 unfolding rhythms_to one_rhythm_of
 rhythms_to_lem r a zero = a
-rhythms_to_lem r a (suc b) = all_set Early (rhythms_to r b).bars b (bass_rhythm_of (rhythms_to r b).stream).steps (rhythm_early (rhythms_to r b).stream) (rhythms_to_lem r a b)
+rhythms_to_lem r a (suc b) = all_set Early (rhythms_to r b).value b (bass_rhythm_of (rhythms_to r b).stream).value (rhythm_early (rhythms_to r b).stream) (rhythms_to_lem r a b)
 
 early_at : (bars : List Steps) → All Early bars → (b : ℕ) → Early (get_or bars b past_steps)
 early_at [] a b = omega arith
 early_at (t ∷ bars) a zero = a.0
 early_at (t ∷ bars) a (suc b) = early_at bars a.1 b
 
-rhythms_early : (s : NoiseStream) (b : ℕ) → Early (get_or (bass_rhythms_of s).bars b past_steps)
+rhythms_early : (s : NoiseStream) (b : ℕ) → Early (get_or (bass_rhythms_of s).value b past_steps)
 unfolding bass_rhythms_of
 rhythms_early s b =
     let none : Early no_steps = omega arith in
-    early_at (bass_rhythms_of s).bars (rhythms_to_lem _ (none, (none, (none, (none, (none, (none, (none, (none, tt)))))))) 8) b
+    early_at (bass_rhythms_of s).value (rhythms_to_lem _ (none, (none, (none, (none, (none, (none, (none, (none, tt)))))))) 8) b
 
 -- ---- the gap: at least one 16th, at most 19
 gap_by : (p : BarPart) → Playable p → p.next_step < 4 → (i : ℕ) → i < p.steps.n → (1 ≤ gap_of p i) × (gap_of p i ≤ 19)
@@ -172,11 +171,11 @@ module _ (n : ℕ) (tempo : (70 ≤ n) × (n ≤ 82)) where
       (unfold mul add le in tt)
 
   -- ---- a note as struck
-  record Struck (x : Strike) : Type 0 where
-    at : In zero32 (end_of beat_s) x.at
-    vel : In softest loudest x.vel
-    at_fits : Fits32 x.at
-    vel_fits : Fits32 x.vel
+  record Struck (x : Draw Strike) : Type 0 where
+    at : In zero32 (end_of beat_s) x.value.at
+    vel : In softest loudest x.value.vel
+    at_fits : Fits32 x.value.at
+    vel_fits : Fits32 x.value.vel
 
   struck_in : (s : NoiseStream) (on : Float) (midi : ℕ) (lag velocity : Spread) → In zero32 (last_of beat_s) on
       → In zero32 bass_lag.base lag.base → In zero32 bass_lag.span lag.span → T (stays velocity softest loudest) → Struck (struck_of s on midi lag velocity)
@@ -252,10 +251,10 @@ module _ (n : ℕ) (tempo : (70 ≤ n) × (n ≤ 82)) where
             bar = p.bar;
             role = NoteRole.Backing;
             spare = 0;
-            at = (note_drawn_of s (onset_of beat_s p.bar (get_or p.steps.at i 0)) p style i).at;
+            at = (note_drawn_of s (onset_of beat_s p.bar (get_or p.steps.at i 0)) p style i).value.at;
             midi = midi;
-            vel = (note_drawn_of s (onset_of beat_s p.bar (get_or p.steps.at i 0)) p style i).vel;
-            dur = held_of beat_s (gap_of p i) (note_drawn_of s (onset_of beat_s p.bar (get_or p.steps.at i 0)) p style i).at;
+            vel = (note_drawn_of s (onset_of beat_s p.bar (get_or p.steps.at i 0)) p style i).value.vel;
+            dur = held_of beat_s (gap_of p i) (note_drawn_of s (onset_of beat_s p.bar (get_or p.steps.at i 0)) p style i).value.at;
           })
       note_plain s i h midi =
           let below = playable.steps.below i h in
@@ -315,7 +314,7 @@ module _ (s : NoiseStream) (h : Harmony) (tonal : Tonal h) (style : Style) (n : 
 
   filled : Filled past_note BassNote drawn.notes drawn.count
   unfolding bass_of
-  filled = bars_plain n tempo h tonal (bass_rhythms_of s).bars (rhythms_rising s) (rhythms_early s) (bass_style_of style) (loud_of style) (later_of style) (bass_rhythms_of s).stream 8 (omega arith)
+  filled = bars_plain n tempo h tonal (bass_rhythms_of s).value (rhythms_rising s) (rhythms_early s) (bass_style_of style) (loud_of style) (later_of style) (bass_rhythms_of s).stream 8 (omega arith)
 
   bass_sound : (i : ℕ) → i < drawn.count → BassNote (get_or drawn.notes i past_note)
   bass_sound i k = let laid = bass_laid s h style (beat_s_of (f32_of n)) tonal in filled i k (omega (arith, laid.size, laid.few))

@@ -115,21 +115,21 @@ module _ (s : NoiseStream) (h : Harmony) (style : Style) (beatS : Float) (tonal 
   -- at most 104 notes, bar after bar, and zero behind them
   pub bass_laid : Laid past_note no_note note_bar 104 7 drawn.notes drawn.count
   unfolding bass_of
-  bass_laid = lane_laid h tonal (bass_rhythms_of s).bars (rhythms_rising s) (bass_style_of style) beatS (bass_rhythms_of s).stream 8 (omega arith)
+  bass_laid = lane_laid h tonal (bass_rhythms_of s).value (rhythms_rising s) (bass_style_of style) beatS (bass_rhythms_of s).stream 8 (omega arith)
 
   -- every loop bar has a note
   pub bass_occur : (b : ℕ) → b < 8 → Occurs (λ i. note_bar (get_or drawn.notes i past_note)) drawn.count b
   unfolding bass_of
-  bass_occur b k = lane_occurs h tonal (bass_rhythms_of s).bars (rhythms_rising s) (bass_style_of style) beatS (bass_rhythms_of s).stream 8 b (omega arith) k
+  bass_occur b k = lane_occurs h tonal (bass_rhythms_of s).value (rhythms_rising s) (bass_style_of style) beatS (bass_rhythms_of s).stream 8 b (omega arith) k
 
   -- at most 13 notes in any one bar
   pub bass_few : EachAtMost note_bar 13 (take drawn.count drawn.notes)
   unfolding bass_of
-  bass_few = lane_few h tonal (bass_rhythms_of s).bars (rhythms_rising s) (bass_style_of style) beatS (bass_rhythms_of s).stream 8 (omega arith)
+  bass_few = lane_few h tonal (bass_rhythms_of s).value (rhythms_rising s) (bass_style_of style) beatS (bass_rhythms_of s).stream 8 (omega arith)
 
   note_at_lem : (i : ℕ) → i < drawn.count → SoundsIn h.bars (get_or drawn.notes i past_note).bar (get_or drawn.notes i past_note).midi × Within 30 42 (get_or drawn.notes i past_note).midi
   unfolding bass_of
-  note_at_lem i k = (lane_grown h tonal (bass_rhythms_of s).bars (rhythms_rising s) (bass_style_of style) beatS (bass_rhythms_of s).stream 8 (omega arith)).new i (omega arith) k
+  note_at_lem i k = (lane_grown h tonal (bass_rhythms_of s).value (rhythms_rising s) (bass_style_of style) beatS (bass_rhythms_of s).stream 8 (omega arith)).new i (omega arith) k
 
   -- root, fifth, or the next root less 1
   pub bass_sounds : (i : ℕ) → i < drawn.count → SoundsIn h.bars (get_or drawn.notes i past_note).bar (get_or drawn.notes i past_note).midi

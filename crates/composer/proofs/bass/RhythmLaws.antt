@@ -14,12 +14,9 @@ use mir.Val.{bool_byte}
 use Rattle.laws.proofs.Bools.{either}
 use Rattle.streams.specs.Draw.{chance_of}
 use Rattle.streams.specs.declared.stream.NoiseStream.{NoiseStream}
-use Rattle.streams.specs.declared.draw.ChanceDraw.{ChanceDraw}
+use Rattle.streams.specs.declared.stream.Draw.{Draw}
 use Rattle.composer.specs.Bass.Rhythm.{step_p, first_beat_sum, root_from, root_step_of, more_steps, one_step_of, steps_to, root_alone, bass_rhythm_of, no_steps, past_steps, one_rhythm_of, rhythms_to, bass_rhythms_of, Rising}
 use Rattle.composer.specs.declared.bass.rhythm.Steps.{Steps}
-use Rattle.composer.specs.declared.bass.rhythm.RootDraw.{RootDraw}
-use Rattle.composer.specs.declared.bass.rhythm.StepsDraw.{StepsDraw}
-use Rattle.composer.specs.declared.bass.rhythm.Rhythms.{Rhythms}
 
 -- ---- the root
 module _ (s : NoiseStream) (left : Float) where
@@ -29,7 +26,7 @@ module _ (s : NoiseStream) (left : Float) where
   abbrev passed : ℕ → NoiseStream
   passed i = (chance_of s (div binary32 (step_p i) left)).stream
 
-  pub root_hit : (i : ℕ) → i < 3 → tried i ≡ true → root_from s left i (3 - i) ≡ record { step = i; stream = passed i }
+  pub root_hit : (i : ℕ) → i < 3 → tried i ≡ true → root_from s left i (3 - i) ≡ record { value = i; stream = passed i }
   unfolding root_from
   root_hit i h t =
       let e : 3 - i ≡ suc (3 - (i + 1)) = omega arith in
@@ -41,16 +38,16 @@ module _ (s : NoiseStream) (left : Float) where
       let e : 3 - i ≡ suc (3 - (i + 1)) = omega arith in
       rw (e, t)
 
-  pub root_last : (i : ℕ) → i ≡ 3 → root_from s left i (3 - i) ≡ record { step = 3; stream = passed 3 }
+  pub root_last : (i : ℕ) → i ≡ 3 → root_from s left i (3 - i) ≡ record { value = 3; stream = passed 3 }
   unfolding root_from
   root_last i e = rw e
 
-pub root_le : (s : NoiseStream) (left : Float) (i more : ℕ) → (root_from s left i more).step ≤ i + more
+pub root_le : (s : NoiseStream) (left : Float) (i more : ℕ) → (root_from s left i more).value ≤ i + more
 unfolding root_from
 root_le s left i zero = omega arith
 root_le s left i (suc more) =
     let next = root_from (passed s left i) (sub binary32 left (step_p i)) (i + 1) more in
-    either (λ (r : RootDraw). r.step ≤ i + suc more) (tried s left i) (record { step = i; stream = passed s left i }) next (omega arith)
+    either (λ (r : Draw ℕ). r.value ≤ i + suc more) (tried s left i) (record { value = i; stream = passed s left i }) next (omega arith)
     (omega (arith, root_le (passed s left i) (sub binary32 left (step_p i)) (i + 1) more))
 
 -- ---- a bar's steps
@@ -103,18 +100,18 @@ few_on : (b : Bool) (t : Steps) (step : ℕ) → (cond b (more_steps t step) t).
 few_on true t step = omega arith
 few_on false t step = omega arith
 
-module _ (d : StepsDraw) (root : Rising d.steps 4) (alone : d.steps.n ≡ 1) where
-  steps_few : (i : ℕ) → (steps_to d i).steps.n ≤ 1 + i
+module _ (d : Draw Steps) (root : Rising d.value 4) (alone : d.value.n ≡ 1) where
+  steps_few : (i : ℕ) → (steps_to d i).value.n ≤ 1 + i
   unfolding steps_to one_step_of
   steps_few zero = omega arith
-  steps_few (suc i) = omega (arith, steps_few i, few_on (chance_of (steps_to d i).stream (step_p (i + 4))).value (steps_to d i).steps (i + 4))
+  steps_few (suc i) = omega (arith, steps_few i, few_on (chance_of (steps_to d i).stream (step_p (i + 4))).value (steps_to d i).value (i + 4))
 
-  steps_rising : (i : ℕ) → i ≤ 12 → Rising (steps_to d i).steps (i + 4)
+  steps_rising : (i : ℕ) → i ≤ 12 → Rising (steps_to d i).value (i + 4)
   unfolding steps_to one_step_of
   steps_rising zero h = root
   steps_rising (suc i) h =
       rising_wider (suc i + 4)
-      (rising_on (chance_of (steps_to d i).stream (step_p (i + 4))).value (steps_to d i).steps (i + 4) (steps_rising i (omega arith)) (omega (arith, steps_few i)))
+      (rising_on (chance_of (steps_to d i).stream (step_p (i + 4))).value (steps_to d i).value (i + 4) (steps_rising i (omega arith)) (omega (arith, steps_few i)))
       (omega arith)
 
 -- ---- a turn of the loop over the later steps: what is drawn, and the steps after it
@@ -126,7 +123,7 @@ rest_on : (b : Bool) (t : Steps) (step : ℕ) → Rest t → Rest (cond b (more_
 rest_on true t step r j h = get_or-set_other t.at t.n j step 0 (λ e. omega arith) ∙ r j (omega arith)
 rest_on false t step r j h = r j h
 
-root_rest : (r : RootDraw) → Rest (root_alone r).steps
+root_rest : (r : Draw ℕ) → Rest (root_alone r).value
 root_rest r zero h = absurd (omega arith)
 root_rest r (suc j) h = zeros 12 j
   where
@@ -135,17 +132,17 @@ root_rest r (suc j) h = zeros 12 j
     zeros (suc k) zero = refl
     zeros (suc k) (suc j) = zeros k j
 
-steps_rest : (r : RootDraw) (i : ℕ) → Rest (steps_to (root_alone r) i).steps
+steps_rest : (r : Draw ℕ) (i : ℕ) → Rest (steps_to (root_alone r) i).value
 unfolding steps_to one_step_of
 steps_rest r zero = root_rest r
-steps_rest r (suc i) = rest_on (chance_of (steps_to (root_alone r) i).stream (step_p (i + 4))).value (steps_to (root_alone r) i).steps (i + 4) (steps_rest r i)
+steps_rest r (suc i) = rest_on (chance_of (steps_to (root_alone r) i).stream (step_p (i + 4))).value (steps_to (root_alone r) i).value (i + 4) (steps_rest r i)
 
 -- a step that sounds is written, and one that rests writes the 0 that stands there
-one_on : (t : Steps) (s : NoiseStream) (step : ℕ) (c : ChanceDraw) → c ≡ chance_of s (step_p step) → Rest t
-    → one_step_of (record { steps = t; stream = s }) step
-    ≡ record { steps = record { at = set t.at t.n (cond c.value step 0); n = t.n + bool_byte c.value }; stream = c.stream }
+one_on : (t : Steps) (s : NoiseStream) (step : ℕ) (c : Draw Bool) → c ≡ chance_of s (step_p step) → Rest t
+    → one_step_of (record { value = t; stream = s }) step
+    ≡ record { value = record { at = set t.at t.n (cond c.value step 0); n = t.n + bool_byte c.value }; stream = c.stream }
 unfolding one_step_of
-one_on t s step c drawn rest = rw (← drawn) (ap (λ (u : Steps). record { steps = u; stream = c.stream }) (go c.value))
+one_on t s step c drawn rest = rw (← drawn) (ap (λ (u : Steps). record { value = u; stream = c.stream }) (go c.value))
   where
     kept : set t.at t.n 0 ≡ t.at
     kept = ap (λ (x : ℕ). set t.at t.n x) (sym (rest t.n (omega arith))) ∙ set-get_or t.at t.n 0
@@ -154,12 +151,12 @@ one_on t s step c drawn rest = rw (← drawn) (ap (λ (u : Steps). record { step
     go true = refl
     go false = rw (kept, add-zero t.n) refl
 
-pub turn_on : (r : RootDraw) (i : ℕ) (t : Steps) (s : NoiseStream) (c : ChanceDraw) → steps_to (root_alone r) i ≡ record { steps = t; stream = s } → c ≡ chance_of s (step_p (i + 4))
-    → steps_to (root_alone r) (i + 1) ≡ record { steps = record { at = set t.at t.n (cond c.value (i + 4) 0); n = t.n + bool_byte c.value }; stream = c.stream }
+pub turn_on : (r : Draw ℕ) (i : ℕ) (t : Steps) (s : NoiseStream) (c : Draw Bool) → steps_to (root_alone r) i ≡ record { value = t; stream = s } → c ≡ chance_of s (step_p (i + 4))
+    → steps_to (root_alone r) (i + 1) ≡ record { value = record { at = set t.at t.n (cond c.value (i + 4) 0); n = t.n + bool_byte c.value }; stream = c.stream }
 unfolding steps_to
-turn_on r i t s c so_far drawn = rw (add-one, so_far) (one_on t s (i + 4) c drawn (subst (λ (d : StepsDraw). Rest d.steps) so_far (steps_rest r i)))
+turn_on r i t s c so_far drawn = rw (add-one, so_far) (one_on t s (i + 4) c drawn (subst (λ (d : Draw Steps). Rest d.value) so_far (steps_rest r i)))
 
-root_rising : (r : RootDraw) → r.step < 4 → Rising (root_alone r).steps 4
+root_rising : (r : Draw ℕ) → r.value < 4 → Rising (root_alone r).value 4
 root_rising r h = record {
   size = refl;
   some = omega arith;
@@ -168,32 +165,32 @@ root_rising r h = record {
   rises = (λ i l. absurd (omega arith));
 }
   where
-    at_root : (i : ℕ) → i < 1 → get_or (root_alone r).steps.at i 0 < 4
+    at_root : (i : ℕ) → i < 1 → get_or (root_alone r).value.at i 0 < 4
     at_root zero l = h
     at_root (suc i) l = absurd (omega arith)
 
-pub rhythm_rising : (s : NoiseStream) → Rising (bass_rhythm_of s).steps 16
+pub rhythm_rising : (s : NoiseStream) → Rising (bass_rhythm_of s).value 16
 unfolding bass_rhythm_of root_step_of
 rhythm_rising s =
     let root = root_from s first_beat_sum 0 3 in
     steps_rising (root_alone root) (root_rising root (omega (arith, root_le s first_beat_sum 0 3))) refl 12 (omega arith)
 
 -- ---- all bars
-rhythms_size : (r : Rhythms) (b : ℕ) → length r.bars ≡ 8 → length (rhythms_to r b).bars ≡ 8
+rhythms_size : (r : Draw (List Steps)) (b : ℕ) → length r.value ≡ 8 → length (rhythms_to r b).value ≡ 8
 unfolding rhythms_to one_rhythm_of
 rhythms_size r zero e = e
-rhythms_size r (suc b) e = length-set (rhythms_to r b).bars b (bass_rhythm_of (rhythms_to r b).stream).steps ∙ rhythms_size r b e
+rhythms_size r (suc b) e = length-set (rhythms_to r b).value b (bass_rhythm_of (rhythms_to r b).stream).value ∙ rhythms_size r b e
 
-bars_rising : (r : Rhythms) (n b : ℕ) → length r.bars ≡ 8 → n ≤ 8 → b < n → Rising (get_or (rhythms_to r n).bars b past_steps) 16
+bars_rising : (r : Draw (List Steps)) (n b : ℕ) → length r.value ≡ 8 → n ≤ 8 → b < n → Rising (get_or (rhythms_to r n).value b past_steps) 16
 unfolding rhythms_to one_rhythm_of
 bars_rising r zero b e h l = absurd (omega arith)
 bars_rising r (suc n) b e h l =
     let last = bass_rhythm_of (rhythms_to r n).stream in
     elim (eq-or-lt_of_le (le_of_suc-le-suc l)) [
-      | inl k ↦ rw (k, get_or-set_same (rhythms_to r n).bars n last.steps past_steps (omega (arith, rhythms_size r n e))) (rhythm_rising (rhythms_to r n).stream)
-      | inr k ↦ rw (get_or-set_other (rhythms_to r n).bars n b last.steps past_steps (λ q. omega arith)) (bars_rising r n b e (omega arith) k)
+      | inl k ↦ rw (k, get_or-set_same (rhythms_to r n).value n last.value past_steps (omega (arith, rhythms_size r n e))) (rhythm_rising (rhythms_to r n).stream)
+      | inr k ↦ rw (get_or-set_other (rhythms_to r n).value n b last.value past_steps (λ q. omega arith)) (bars_rising r n b e (omega arith) k)
     ]
 
-pub rhythms_rising : (s : NoiseStream) (b : ℕ) → b < 8 → Rising (get_or (bass_rhythms_of s).bars b past_steps) 16
+pub rhythms_rising : (s : NoiseStream) (b : ℕ) → b < 8 → Rising (get_or (bass_rhythms_of s).value b past_steps) 16
 unfolding bass_rhythms_of
-rhythms_rising s b h = bars_rising (record { bars = replicate 8 no_steps; stream = s }) 8 b refl (omega arith) h
+rhythms_rising s b h = bars_rising (record { value = replicate 8 no_steps; stream = s }) 8 b refl (omega arith) h

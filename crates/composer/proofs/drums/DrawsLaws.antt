@@ -10,7 +10,7 @@ use Rattle.laws.proofs.Bools.{either}
 use Rattle.streams.specs.Stream.{after}
 use Rattle.streams.specs.Draw.{chance_of}
 use Rattle.streams.specs.declared.stream.NoiseStream.{NoiseStream}
-use Rattle.streams.specs.declared.draw.ChanceDraw.{ChanceDraw}
+use Rattle.streams.specs.declared.stream.Draw.{Draw}
 use Rattle.streams.proofs.StreamLaws.{after_on}
 use Rattle.streams.proofs.DrawLaws.{chance_advances}
 use Rattle.composer.specs.Spread.{draw_of, jitter_of}
@@ -74,7 +74,7 @@ module _ (s : NoiseStream) where
     unfolding lay_hat_of
     lay_hat_made n l bar e m = go (g.hats.off_eighths_only && eqb (e % 2) 0)
       where
-        skip : ChanceDraw
+        skip : Draw Bool
         skip = chance_of l.stream g.hats.skip_p
 
         drawn : DrumLane

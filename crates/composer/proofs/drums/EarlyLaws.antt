@@ -21,6 +21,7 @@ use Rattle.laws.proofs.Sorts.{all_by}
 use Rattle.laws.proofs.Sums.{sum_none, sum_once}
 use Rattle.streams.specs.Draw.{chance_of, pick_of}
 use Rattle.streams.specs.declared.stream.NoiseStream.{NoiseStream}
+use Rattle.streams.specs.declared.stream.Draw.{Draw}
 use Rattle.streams.proofs.DrawLaws.{pick_lt}
 use Rattle.composer.specs.Compose.{beat_s_of}
 use Rattle.composer.specs.Drums.{wobble, bar_of, lay_bar_of, bars_to, no_hits, lay_groove_of, drums_of}
@@ -34,7 +35,6 @@ use Rattle.composer.specs.declared.drums.DrumLane.{DrumLane}
 use Rattle.composer.specs.declared.drums.grooves.Groove.{Groove}
 use Rattle.composer.specs.declared.drums.grooves.Kick.{Kick}
 use Rattle.composer.specs.declared.drums.kit.Bar.{Bar}
-use Rattle.composer.specs.declared.drums.kit.Struck.{Struck}
 use Rattle.composer.specs.declared.note.Hit.{Hit}
 use Rattle.composer.specs.declared.style.Style.{Style}
 use Rattle.composer.specs.declared.style.Style.TheVariants.{Hiphop, Sleep}
@@ -55,12 +55,12 @@ module _ (n : ℕ) (tempo : (70 ≤ n) × (n ≤ 82)) (v : ℕ) where
   abbrev earlies : DrumLane → ℕ
   earlies l = count test (take l.count l.hits)
 
-  struck_most : (l : DrumLane) (d : Struck) → earlies (struck_of l d) ≤ earlies l + cond (test d.hit) 1 0
-  struck_most l d = rw (add-one l.count) (count_push test d.hit l.hits l.count)
+  struck_most : (l : DrumLane) (d : Draw Hit) → earlies (struck_of l d) ≤ earlies l + cond (test d.value) 1 0
+  struck_most l d = rw (add-one l.count) (count_push test d.value l.hits l.count)
 
-  struck_late : (l : DrumLane) (d : Struck) → is_early beat_s d.hit ≡ false → earlies (struck_of l d) ≤ earlies l
+  struck_late : (l : DrumLane) (d : Draw Hit) → is_early beat_s d.value ≡ false → earlies (struck_of l d) ≤ earlies l
   struck_late l d e =
-      let off : ◌≡◌ {A = ℕ} (cond (test d.hit) 1 0) 0 = rw (e, and-false (eqb d.hit.bar v)) in
+      let off : ◌≡◌ {A = ℕ} (cond (test d.value) 1 0) 0 = rw (e, and-false (eqb d.value.bar v)) in
       omega (arith, struck_most l d, off)
 
   module _ (number : ℕ) (in_loop : number ≤ 7) (w : Float) where
@@ -96,7 +96,7 @@ module _ (n : ℕ) (tempo : (70 ≤ n) × (n ≤ 82)) (v : ℕ) where
       -- a hat may be early, in its own bar
       hat_most : (l : DrumLane) (e : ℕ) → earlies (push_hat_of l g bar e) ≤ earlies l + cond (eqb number v) 1 0
       unfolding push_hat_of hat_hit_of
-      hat_most l e = omega (arith, struck_most l (hat_hit_of l.stream g bar e), one (eqb number v) (is_early beat_s (hat_hit_of l.stream g bar e).hit))
+      hat_most l e = omega (arith, struck_most l (hat_hit_of l.stream g bar e), one (eqb number v) (is_early beat_s (hat_hit_of l.stream g bar e).value))
         where
           one : (a b : Bool) → cond (a && b) 1 0 ≤ cond a 1 0
           one true true = omega arith

@@ -9,11 +9,11 @@ use mir.Facts.{and_yes}
 use lib.Ieee.{Float}
 use Rattle.laws.proofs.Bools.{holds, cond_by, either}
 use Rattle.streams.specs.Draw.{chance_of}
+use Rattle.streams.specs.declared.stream.Draw.{Draw}
 use Rattle.composer.specs.Spread.{draw_of}
 use Rattle.composer.specs.Drums.{wobble, bar_of, lay_bar_of, bars_to}
 use Rattle.composer.specs.Drums.Grooves.{ghost_kick}
 use Rattle.composer.specs.Drums.Kit.{ends_statement, drawn_on, push_kick_of, lay_kicks_of, kick_count_of, kick_of, push_snare_of, snares_to, lay_snares_of, push_hat_of, lay_hat_of, hats_to}
-use Rattle.composer.specs.declared.spread.Drawn.{Drawn}
 use Rattle.composer.specs.declared.drums.DrumLane.{DrumLane}
 use Rattle.composer.specs.declared.drums.grooves.Kick.{Kick}
 use Rattle.composer.specs.declared.drums.grooves.Groove.{Groove}
@@ -90,7 +90,7 @@ module _ (l : DrumLane) (g : Groove) (bar : Bar) where
 module _ (l : DrumLane) (g : Groove) (beatS : Float) where
   -- a bar: its wobble w, then its kicks a, its snares b and its hats c
   pub bar_laid :
-      (n : ℕ) (w : Drawn) (bar : Bar) (k : ℕ) (a b c : DrumLane)
+      (n : ℕ) (w : Draw Float) (bar : Bar) (k : ℕ) (a b c : DrumLane)
       → w ≡ draw_of wobble l.stream → bar ≡ bar_of n beatS w.value → k ≡ kick_count_of g bar
       → a ≡ kicks_to (drawn_on l w.stream) g bar k → b ≡ lay_snares_of a g bar → c ≡ hats_to b g bar 8 → c ≡ lay_bar_of l g beatS n
   unfolding lay_bar_of

@@ -1,26 +1,24 @@
 -- The stroke of each comp, how many notes it adds, and an eighth as the loop plays it. Assumes nothing.
 use mathlib.Core.Path.{◌≡◌, sym, ap}
-use mathlib.Core.Bool.{true, false}
+use mathlib.Core.Bool.{Bool, true, false}
 use mathlib.Core.List.{List}
 use Prim.Native.Nat.{ℕ, ◌+◌, ◌≤◌}
 use native.Mathlib.Omega.{arith}
 use lib.Ieee.{Float, binary32, add}
 use lib.ListN.{set}
 use Rattle.streams.specs.Draw.{chance_of}
-use Rattle.streams.specs.declared.draw.ChanceDraw.{ChanceDraw}
 use Rattle.streams.specs.declared.stream.NoiseStream.{NoiseStream}
+use Rattle.streams.specs.declared.stream.Draw.{Draw}
 use Rattle.composer.specs.Chord.{root_class_of}
 use Rattle.composer.specs.Keys.{keys_lag, shell_of, moved_of, grid_at, dyad_of, tone_of, shell_stroke_of, single_stroke_of, stroke_by, stroke_of, eighth_of}
 use Rattle.composer.specs.Spread.{draw_of}
 use Rattle.composer.specs.declared.chord.Chord.{Chord}
-use Rattle.composer.specs.declared.keys.Dyad.{Dyad}
 use Rattle.composer.specs.declared.keys.KeysLane.{KeysLane}
 use Rattle.composer.specs.declared.keys.Shell.{Shell}
-use Rattle.composer.specs.declared.keys.Tone.{Tone}
 use Rattle.composer.specs.declared.note.Note.{Note}
-use Rattle.composer.specs.declared.spread.Drawn.{Drawn}
 use Rattle.composer.specs.declared.style.Comp.{Comp}
 use Rattle.composer.specs.declared.style.KeysStyle.{KeysStyle}
+use Rattle.composer.specs.declared.keys.Dyad.{Dyad}
 
 -- the loop's notes, their count and its stream as a lane
 abbrev pub lane_of : List Note → ℕ → NoiseStream → KeysLane
@@ -48,12 +46,12 @@ module _ (l : KeysLane) (c : Chord) (k : KeysStyle) (bar : ℕ) (grid : Float) w
   stroke_count = stroke_by_count k.comp (lagged l) c k bar (struck_at l grid)
 
 -- ---- an eighth, from what the loop draws for it
-module _ (l : KeysLane) (c : Chord) (k : KeysStyle) (density : Float) (bar e : ℕ) (beatS : Float) (d : ChanceDraw) (drew : d ≡ chance_of l.stream density) where
+module _ (l : KeysLane) (c : Chord) (k : KeysStyle) (density : Float) (bar e : ℕ) (beatS : Float) (d : Draw Bool) (drew : d ≡ chance_of l.stream density) where
   pub eighth_rest : d.value ≡ false → moved_of l d.stream ≡ eighth_of l c k density bar e beatS
   unfolding eighth_of
   eighth_rest silent = rw (← drew, silent)
 
-  module _ (strikes : d.value ≡ true) (lag : Drawn) (lags : lag ≡ draw_of keys_lag d.stream) (grid : Float) (on : grid ≡ grid_at bar e beatS) where
+  module _ (strikes : d.value ≡ true) (lag : Draw Float) (lags : lag ≡ draw_of keys_lag d.stream) (grid : Float) (on : grid ≡ grid_at bar e beatS) where
     abbrev at : Float
     at = add binary32 grid lag.value
 
@@ -61,14 +59,14 @@ module _ (l : KeysLane) (c : Chord) (k : KeysStyle) (density : Float) (bar e : �
     unfolding eighth_of
     struck comp is = rw (← drew, strikes, lags, on) (sym (stroke_by_lem (moved_of l d.stream) c k bar (grid_at bar e beatS) comp is))
 
-    module _ (shell : Shell) (found : shell ≡ shell_of c) (dyad : Dyad) (made : dyad ≡ dyad_of lag.stream shell (root_class_of c) k bar at) where
-      pub eighth_shell : k.comp ≡ Comp.Shell → lane_of (set (set l.notes l.count dyad.lower) (l.count + 1) dyad.higher) (l.count + 2) dyad.stream ≡ eighth_of l c k density bar e beatS
+    module _ (shell : Shell) (found : shell ≡ shell_of c) (dyad : Draw Dyad) (made : dyad ≡ dyad_of lag.stream shell (root_class_of c) k bar at) where
+      pub eighth_shell : k.comp ≡ Comp.Shell → lane_of (set (set l.notes l.count dyad.value.lower) (l.count + 1) dyad.value.higher) (l.count + 2) dyad.stream ≡ eighth_of l c k density bar e beatS
       unfolding shell_stroke_of
       eighth_shell is =
           let two : l.count + 2 ≡ l.count + 1 + 1 = omega arith in
           rw (made, found, two) (struck Comp.Shell is)
 
-    module _ (tone : Tone) (made : tone ≡ tone_of lag.stream c k bar at) where
-      pub eighth_single : k.comp ≡ Comp.Single → lane_of (set l.notes l.count tone.note) (l.count + 1) tone.stream ≡ eighth_of l c k density bar e beatS
+    module _ (tone : Draw Note) (made : tone ≡ tone_of lag.stream c k bar at) where
+      pub eighth_single : k.comp ≡ Comp.Single → lane_of (set l.notes l.count tone.value) (l.count + 1) tone.stream ≡ eighth_of l c k density bar e beatS
       unfolding single_stroke_of
       eighth_single is = rw made (struck Comp.Single is)

@@ -46,20 +46,20 @@ module _ (s : NoiseStream) (h : Harmony) (tonal : Tonal h) (style : Style) where
   abbrev l : LeadStyle
   l = lead_style_of style
 
-  pub song_ready : Ready (rhythm_of s l).bars h.bars (pool_of h.scale) l
-  song_ready = ready h tonal style (rhythm_of s l).bars (rhythm_few s l)
+  pub song_ready : Ready (rhythm_of s l).value h.bars (pool_of h.scale) l
+  song_ready = ready h tonal style (rhythm_of s l).value (rhythm_few s l)
 
   pub sung_good : Good (pool_of h.scale) l.lo l.hi (sung_of s h style) × ((sung_of s h style).count ≤ 56)
   unfolding sung_of
-  sung_good = melody_good (rhythm_of s l).bars h.bars (pool_of h.scale) l song_ready (rhythm_of s l).stream
+  sung_good = melody_good (rhythm_of s l).value h.bars (pool_of h.scale) l song_ready (rhythm_of s l).stream
 
   sung_laid : Laid past_lead no_lead lead_bar 56 7 (sung_of s h style).notes (sung_of s h style).count
   unfolding sung_of
-  sung_laid = melody_laid (rhythm_of s l).stream (rhythm_of s l).bars h.bars (pool_of h.scale) l song_ready
+  sung_laid = melody_laid (rhythm_of s l).stream (rhythm_of s l).value h.bars (pool_of h.scale) l song_ready
 
   sung_few : EachAtMost lead_bar 7 (take (sung_of s h style).count (sung_of s h style).notes)
   unfolding sung_of
-  sung_few = melody_few (rhythm_of s l).stream (rhythm_of s l).bars h.bars (pool_of h.scale) l song_ready
+  sung_few = melody_few (rhythm_of s l).stream (rhythm_of s l).value h.bars (pool_of h.scale) l song_ready
 
   module _ (beatS : Float) where
     abbrev m : Sung

@@ -13,7 +13,7 @@ use lib.Seq.{get_or-set_same, get_or-set_other}
 use Rattle.laws.proofs.Bools.{both, cond_by}
 use Rattle.streams.specs.Draw.{pick_of, chance_of}
 use Rattle.streams.specs.declared.stream.NoiseStream.{NoiseStream}
-use Rattle.streams.specs.declared.draw.PickDraw.{PickDraw}
+use Rattle.streams.specs.declared.stream.Draw.{Draw}
 use Rattle.streams.proofs.DrawLaws.{pick_lt}
 use Rattle.composer.specs.Lead.Scale.{fits_of, room_of, walk_of, scale_step_of}
 use Rattle.composer.specs.Lead.Tones.{listed, distance_of, near_of}
@@ -33,22 +33,22 @@ use Rattle.composer.proofs.lead.FitLaws.{fits_what, nearest_in}
 use Rattle.composer.proofs.lead.ScaleLaws.{walk_in}
 
 -- a pick in hand is below its number
-pub picked_below : (s : NoiseStream) (n : ℕ) {r : PickDraw} → r ≡ pick_of s n → 0 < n → r.value < n
+pub picked_below : (s : NoiseStream) (n : ℕ) {r : Draw ℕ} → r ≡ pick_of s n → 0 < n → r.value < n
 picked_below s n e h = rw e (pick_lt s n h)
 
 -- ---- the role: where it is a quote, there is a note to quote
-pub role_quotes : (l : Line) (p : Place) → Quotable (role_of l p).role p.i l.heads
+pub role_quotes : (l : Line) (p : Place) → Quotable (role_of l p).value p.i l.heads
 unfolding role_of chance_role_of
 role_quotes l p =
     by_cases (quotes_of p l.heads) p.last (peaks_of p) (leapt_of l.from l.prev) p.strong
     (λ h. ltb-true p.i l.heads (both (eqb p.bar 4) (ltb p.i l.heads) (both (eqb p.bar 4 && ltb p.i l.heads) (not p.last) h).0).1)
   where
-    by_chance : (h : Bool) (t : NoiseStream) → Quotable (cond h (chosen_of ChordTone t) (chosen_of Passing t)).role p.i l.heads
+    by_chance : (h : Bool) (t : NoiseStream) → Quotable (cond h (chosen_of ChordTone t) (chosen_of Passing t)).value p.i l.heads
     by_chance true t = tt
     by_chance false t = tt
 
     by_cases : (a b c d e : Bool) → (a ≡ true → p.i < l.heads)
-        → Quotable (cond a (chosen_of Quote l.stream) (cond b (chosen_of Close l.stream) (cond c (chosen_of Peak l.stream) (cond d (chosen_of Resolve l.stream) (cond e (chosen_of ChordTone l.stream) (chance_role_of l.stream)))))).role p.i l.heads
+        → Quotable (cond a (chosen_of Quote l.stream) (cond b (chosen_of Close l.stream) (cond c (chosen_of Peak l.stream) (cond d (chosen_of Resolve l.stream) (cond e (chosen_of ChordTone l.stream) (chance_role_of l.stream)))))).value p.i l.heads
     by_cases true b c d e h = h refl
     by_cases false true c d e h = tt
     by_cases false false true d e h = tt
@@ -72,7 +72,7 @@ module _ (pool : List Bool) (g : Ground) (sound : Sound pool g) where
   tones_for_tuned false = sound.tones
 
   pub pitch_fits : (r : Role) (s : NoiseStream) (l : Line) (p : Place) (first : ℕ) → Fit pool g.lo g.hi l first → Quotable r p.i l.heads
-      → T (fits_of pool g.lo g.hi (pitch_of r s pool g l p first).note)
+      → T (fits_of pool g.lo g.hi (pitch_of r s pool g l p first).value)
   unfolding pitch_of peak_note_of chord_note_of passing_note_of
   pitch_fits Quote s l p first f q = f.head p.i q
   pitch_fits Close s l p first f q = near_fits g.tones sound.tones first
@@ -87,7 +87,7 @@ module _ (pool : List Bool) (g : Ground) (sound : Sound pool g) where
 
   pub step_note_fits : (l : Line) (p : Place) (first : ℕ) → Fit pool g.lo g.hi l first → T (fits_of pool g.lo g.hi (step_of pool g l p first).note)
   unfolding step_of
-  step_note_fits l p first f = pitch_fits (role_of l p).role (role_of l p).stream l p first f (role_quotes l p)
+  step_note_fits l p first f = pitch_fits (role_of l p).value (role_of l p).stream l p first f (role_quotes l p)
 
 -- ---- the line after one note more
 pub opens_room : (bar heads : ℕ) → opens_line_of bar heads ≡ true → heads < 2

@@ -59,7 +59,7 @@ quarter_in x q =
 
 module _ (s : NoiseStream) (style : LeadStyle) (k : ℕ) (h : k < 8) where
   abbrev bar : Beats
-  bar = get_or (rhythm_of s style).bars k past_beats
+  bar = get_or (rhythm_of s style).value k past_beats
 
   seven : length bar.at ≡ 7
   seven = let t = rhythm_bar s style k h in ap (λ (b : Beats). length b.at) t.is ∙ length_pad zero32 7 t.beats t.few
@@ -108,7 +108,7 @@ module _ (pool : List Bool) (g : Ground) (isFair : T (stays g.velocity least mos
   bar_full m (suc i) h f =
       let before = bar_to pool g bar b m i in
       filled_push past_lead PlainSung before.notes before.count _ (bar_full m i (omega arith) f)
-      (record { bar = in_loop; beat = beats i (omega arith); vel = velocity_in (role_of before.line (place_of bar b i)).role _ (draw_in g.velocity least most isFair _) })
+      (record { bar = in_loop; beat = beats i (omega arith); vel = velocity_in (role_of before.line (place_of bar b i)).value _ (draw_in g.velocity least most isFair _) })
 
 module _ (style : LeadStyle) (isFair : T (stays style.velocity least most)) (beats : List Beats)
     (fits : (k : ℕ) → k < 8 → (i : ℕ) → i < (get_or beats k past_beats).n → In zero32 last_beat (get_or (get_or beats k past_beats).at i nan)) where
@@ -131,7 +131,7 @@ sung_full s h style =
     let l = lead_style_of style in
     let r = rhythm_of s l in
     let m = nothing_sung (start_of l (get_or h.bars 0 past_chord) (pool_of h.scale)) r.stream in
-    bars_full l (style_fair style) r.bars (beat_in s l) h.bars (pool_of h.scale) m 8 (omega arith) (filled_none past_lead PlainSung m.notes)
+    bars_full l (style_fair style) r.value (beat_in s l) h.bars (pool_of h.scale) m 8 (omega arith) (filled_none past_lead PlainSung m.notes)
 
 -- ---- as played
 dur_in : (style : Style) → In shortest longest (lead_style_of style).dur

@@ -10,6 +10,7 @@ use lib.ListN.{get_or, set, length, length-set, get_or-replicate}
 use lib.Seq.{get_or-set_same, get_or-set_other}
 use lib.Ieee.{Float}
 use Rattle.streams.specs.declared.stream.NoiseStream.{NoiseStream}
+use Rattle.streams.specs.declared.stream.Draw.{Draw}
 use Rattle.composer.specs.Note.{no_note, past_note}
 use Rattle.composer.specs.Lead.Melody.{past_lead}
 use Rattle.composer.specs.Lead.Role.{noted_of}
@@ -18,7 +19,6 @@ use Rattle.composer.specs.declared.note.Note.{Note}
 use Rattle.composer.specs.declared.lead.LeadLane.{LeadLane}
 use Rattle.composer.specs.declared.lead.melody.LeadNote.{LeadNote}
 use Rattle.composer.specs.declared.lead.melody.Sung.{Sung}
-use Rattle.composer.specs.declared.lead.played.PlayedNote.{PlayedNote}
 
 -- a lane's parts, together
 abbrev pub lane_with : List Note → NoiseStream → ℕ → LeadLane
@@ -33,11 +33,11 @@ module _ (m : Sung) (beatS dur : Float) (s : NoiseStream) where
   lane k = play_to m beatS dur (silence_of s) k
 
   -- one note more, over the code's own equations
-  pub lane_more : (notes : List Note) (stream : NoiseStream) (i : ℕ) (x : LeadNote) (p : PlayedNote) → lane_with notes stream i ≡ lane i → x ≡ get_or m.notes i past_lead
-      → p ≡ played_note_of x beatS dur stream → lane_with (set notes i p.note) p.stream (i + 1) ≡ lane (i + 1)
+  pub lane_more : (notes : List Note) (stream : NoiseStream) (i : ℕ) (x : LeadNote) (p : Draw Note) → lane_with notes stream i ≡ lane i → x ≡ get_or m.notes i past_lead
+      → p ≡ played_note_of x beatS dur stream → lane_with (set notes i p.value) p.stream (i + 1) ≡ lane (i + 1)
   unfolding play_to play_of
   lane_more notes stream i x p e f h =
-      let next : lane_with (set notes i p.note) p.stream (i + 1) ≡ lane (suc i) = rw (← e, h, f) in
+      let next : lane_with (set notes i p.value) p.stream (i + 1) ≡ lane (suc i) = rw (← e, h, f) in
       next ∙ ap lane (sym (add-one i))
 
   lane_count : (k : ℕ) → (lane k).count ≡ k

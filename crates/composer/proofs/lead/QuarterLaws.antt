@@ -16,13 +16,13 @@ use Rattle.laws.proofs.Runs.{every, every_at}
 use Rattle.laws.proofs.Sorts.{all_list_to}
 use Rattle.streams.specs.Draw.{chance_of, coin_of}
 use Rattle.streams.specs.declared.stream.NoiseStream.{NoiseStream}
+use Rattle.streams.specs.declared.stream.Draw.{Draw}
 use Rattle.composer.specs.Note.{zero32}
 use Rattle.composer.specs.Timing.{sixteenth_beats}
 use Rattle.composer.specs.Lead.Grid.{grid_beat_of, lead_grid, grid_first, grid_last}
 use Rattle.composer.specs.Lead.Push.{push_p, push_of}
 use Rattle.composer.specs.Lead.Answer.{shift_p, either_way_of, clamp_of, shift_of}
 use Rattle.composer.specs.Lead.Settled.{quarters, Quarter}
-use Rattle.composer.specs.declared.spread.Drawn.{Drawn}
 
 quarter_by : (x : Float) (q : ℕ) → 2 ≤ q → q ≤ 14 → T (fits binary32 x) → T (eqb (to_bits binary32 x) (to_bits binary32 (quarters q))) → Quarter x
 quarter_by x q a b f t = record {
@@ -79,9 +79,9 @@ pub push_quarter : (s : NoiseStream) (x : Float) → Quarter x → Quarter (push
 unfolding push_of
 push_quarter s x a =
     let c = chance_of s push_p in
-    let moved : Drawn = record { value = cond c.value (sub binary32 x sixteenth_beats) x; stream = c.stream } in
-    let stays : Drawn = record { value = x; stream = s } in
-    cond_by (λ (d : Drawn). Quarter d.value) (eq (fract_of x) zero32) moved stays
+    let moved : Draw Float = record { value = cond c.value (sub binary32 x sixteenth_beats) x; stream = c.stream } in
+    let stays : Draw Float = record { value = x; stream = s } in
+    cond_by (λ (d : Draw Float). Quarter d.value) (eq (fract_of x) zero32) moved stays
     (λ (e : eq (fract_of x) zero32 ≡ true). cond_by Quarter c.value (sub binary32 x sixteenth_beats) x (λ (u : c.value ≡ true). ahead e) (λ (u : c.value ≡ false). a)) (λ (e : eq (fract_of x) zero32 ≡ false). a)
   where
     ahead : eq (fract_of x) zero32 ≡ true → Quarter (sub binary32 x sixteenth_beats)
@@ -123,9 +123,9 @@ unfolding shift_of
 shift_quarter s x a =
     let c = chance_of s shift_p in
     let up = coin_of c.stream in
-    let moved : Drawn = record { value = clamp_of (add binary32 x (either_way_of up.value)); stream = up.stream } in
-    let stays : Drawn = record { value = x; stream = c.stream } in
+    let moved : Draw Float = record { value = clamp_of (add binary32 x (either_way_of up.value)); stream = up.stream } in
+    let stays : Draw Float = record { value = x; stream = c.stream } in
     let l = a.most in
-    cond_by (λ (d : Drawn). Quarter d.value) c.value moved stays
+    cond_by (λ (d : Draw Float). Quarter d.value) c.value moved stays
     (λ (e : c.value ≡ true). subst (λ (y : Float). Quarter (clamp_of (add binary32 y (either_way_of up.value)))) (sym (placed x a)) (shift_at up.value (a.times - 2) (omega arith)))
     (λ (e : c.value ≡ false). a)

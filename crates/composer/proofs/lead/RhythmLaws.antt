@@ -14,6 +14,7 @@ use Rattle.laws.proofs.Lists.{length_list_to, pad_at_lem}
 use Rattle.laws.proofs.Sorts.{all_at, all_set, all_snoc}
 use Rattle.streams.specs.Draw.{chance_of, pick_of}
 use Rattle.streams.specs.declared.stream.NoiseStream.{NoiseStream}
+use Rattle.streams.specs.declared.stream.Draw.{Draw}
 use Rattle.composer.specs.Note.{zero32}
 use Rattle.composer.specs.Style.{odds_of}
 use Rattle.composer.specs.Lead.Beats.{past_beats, beats_of, list_of, add_of, without, remove_of, settled, settle_of}
@@ -25,8 +26,6 @@ use Rattle.composer.specs.Lead.Rhythm.{state_of, state_to, notes_in, fallback_fi
 use Rattle.composer.specs.Lead.Settled.{Quarter, Settled}
 use Rattle.composer.specs.declared.style.LeadStyle.{LeadStyle}
 use Rattle.composer.specs.declared.lead.beats.Beats.{Beats}
-use Rattle.composer.specs.declared.lead.push.BeatsDraw.{BeatsDraw}
-use Rattle.composer.specs.declared.lead.rhythm.Rhythm.{Rhythm}
 use Rattle.composer.proofs.lead.BeatsLaws.{list_back, add_beats, rest_zero}
 use Rattle.composer.proofs.lead.SettleLaws.{settle_sorted, settle_spaced, settle_all, length_settled, none_near}
 use Rattle.composer.proofs.lead.QuarterLaws.{quarter_on, grid_quarters, push_quarter, shift_quarter}
@@ -57,29 +56,29 @@ drawing_count : (m : ℕ) (b : Beats) → Drawing m b → length (list_of b) ≤
 drawing_count m b d = rw (d.is, list_back d.beats) d.few
 
 -- every beat adds one at most
-drawing_fold : (f : BeatsDraw → Float → BeatsDraw) → ((m : ℕ) (d : BeatsDraw) (x : Float) → m < 7 → Drawing m d.beats → Quarter x → Drawing (m + 1) (f d x).beats)
-    → (m : ℕ) (d : BeatsDraw) (xs : List Float) → m + length xs ≤ 7 → Drawing m d.beats → All Quarter xs → Drawing 7 (foldl f d xs).beats
-drawing_fold f step m d [] h g a = drawing_more m 7 d.beats (omega arith) g
+drawing_fold : (f : Draw Beats → Float → Draw Beats) → ((m : ℕ) (d : Draw Beats) (x : Float) → m < 7 → Drawing m d.value → Quarter x → Drawing (m + 1) (f d x).value)
+    → (m : ℕ) (d : Draw Beats) (xs : List Float) → m + length xs ≤ 7 → Drawing m d.value → All Quarter xs → Drawing 7 (foldl f d xs).value
+drawing_fold f step m d [] h g a = drawing_more m 7 d.value (omega arith) g
 drawing_fold f step m d (x ∷ xs) h g a = drawing_fold f step (m + 1) (f d x) xs (omega arith) (step m d x (omega arith) g a.0) a.1
 
 -- ---- the statement
-drawing_slot : (p : Float) (m : ℕ) (d : BeatsDraw) (x : Float) → m < 7 → Drawing m d.beats → Quarter x → Drawing (m + 1) (slot_of p d x).beats
+drawing_slot : (p : Float) (m : ℕ) (d : Draw Beats) (x : Float) → m < 7 → Drawing m d.value → Quarter x → Drawing (m + 1) (slot_of p d x).value
 unfolding slot_of
 drawing_slot p m d x h g q =
     let c = chance_of d.stream p in
-    cond_by (Drawing (m + 1)) c.value (add_of d.beats x) d.beats (λ (e : c.value ≡ true). drawing_add m d.beats x h g q) (λ (e : c.value ≡ false). drawing_more m (m + 1) d.beats (omega arith) g)
+    cond_by (Drawing (m + 1)) c.value (add_of d.value x) d.value (λ (e : c.value ≡ true). drawing_add m d.value x h g q) (λ (e : c.value ≡ false). drawing_more m (m + 1) d.value (omega arith) g)
 
-drawing_push : (m : ℕ) (d : BeatsDraw) (x : Float) → m < 7 → Drawing m d.beats → Quarter x → Drawing (m + 1) (push_on_of d x).beats
+drawing_push : (m : ℕ) (d : Draw Beats) (x : Float) → m < 7 → Drawing m d.value → Quarter x → Drawing (m + 1) (push_on_of d x).value
 unfolding push_on_of
-drawing_push m d x h g q = drawing_add m d.beats (push_of d.stream x).value h g (push_quarter d.stream x q)
+drawing_push m d x h g q = drawing_add m d.value (push_of d.stream x).value h g (push_quarter d.stream x q)
 
-drawing_slots : (s : NoiseStream) (p : Float) → Drawing 7 (slots_of s p).beats
+drawing_slots : (s : NoiseStream) (p : Float) → Drawing 7 (slots_of s p).value
 unfolding slots_of
 drawing_slots s p = drawing_fold (slot_of p) (drawing_slot p) 0 (empty_from s) lead_grid (omega (arith, length_list_to grid_beat_of 7)) drawing_none grid_quarters
 
-drawing_pushes : (d : BeatsDraw) → Drawing 7 d.beats → Drawing 7 (pushes_of d).beats
+drawing_pushes : (d : Draw Beats) → Drawing 7 d.value → Drawing 7 (pushes_of d).value
 unfolding pushes_of
-drawing_pushes d g = drawing_fold push_on_of drawing_push 0 (empty_from d.stream) (list_of d.beats) (omega (arith, drawing_count 7 d.beats g)) drawing_none (drawing_listed 7 d.beats g)
+drawing_pushes d g = drawing_fold push_on_of drawing_push 0 (empty_from d.stream) (list_of d.value) (omega (arith, drawing_count 7 d.value g)) drawing_none (drawing_listed 7 d.value g)
 
 settled_by : (b : Beats) → Drawing 7 b → Settled (settle_of b)
 settled_by b g = record {
@@ -97,20 +96,20 @@ settled_none = record { beats = []; is = refl; few = omega arith; sorted = tt; s
 settled_one : (x : Float) → Quarter x → Settled (beats_of (x ∷ []))
 settled_one x q = record { beats = x ∷ []; is = refl; few = omega arith; sorted = (tt, tt); spaced = (none_near x, tt); quartered = (q, tt) }
 
-statement_bar_settled : (s : NoiseStream) (style : LeadStyle) → Settled (statement_bar_of s style).beats
+statement_bar_settled : (s : NoiseStream) (style : LeadStyle) → Settled (statement_bar_of s style).value
 unfolding statement_bar_of
 statement_bar_settled s style =
     let r = odds_of style.rest_p s in
     let kept = slots_of r.stream style.note_p in
-    cond_by (λ (d : BeatsDraw). Settled d.beats) r.value (empty_from r.stream) (settled_of (pushes_of kept))
-    (λ (e : r.value ≡ true). settled_none) (λ (e : r.value ≡ false). settled_by (pushes_of kept).beats (drawing_pushes kept (drawing_slots r.stream style.note_p)))
+    cond_by (λ (d : Draw Beats). Settled d.value) r.value (empty_from r.stream) (settled_of (pushes_of kept))
+    (λ (e : r.value ≡ true). settled_none) (λ (e : r.value ≡ false). settled_by (pushes_of kept).value (drawing_pushes kept (drawing_slots r.stream style.note_p)))
 
 -- ---- the answer
-drawing_vary : (m : ℕ) (d : BeatsDraw) (x : Float) → m < 7 → Drawing m d.beats → Quarter x → Drawing (m + 1) (vary_of d x).beats
+drawing_vary : (m : ℕ) (d : Draw Beats) (x : Float) → m < 7 → Drawing m d.value → Quarter x → Drawing (m + 1) (vary_of d x).value
 unfolding vary_of
 drawing_vary m d x h g q =
     let v = shift_of d.stream x in
-    drawing_push m (record { beats = d.beats; stream = v.stream }) v.value h g (shift_quarter d.stream x q)
+    drawing_push m (record { value = d.value; stream = v.stream }) v.value h g (shift_quarter d.stream x q)
 
 all_without : (P : Float → Type 0) (k : ℕ) (xs : List Float) → All P xs → All P (without k xs)
 unfolding without
@@ -132,17 +131,17 @@ drawing_remove b k g = record {
   quartered = all_without Quarter k (list_of b) (drawing_listed 7 b g);
 }
 
-drawing_drop : (d : BeatsDraw) → Drawing 7 d.beats → Drawing 7 (drop_one_of d).beats
+drawing_drop : (d : Draw Beats) → Drawing 7 d.value → Drawing 7 (drop_one_of d).value
 unfolding drop_one_of
 drawing_drop d g =
-    let n = d.beats.n in
+    let n = d.value.n in
     let c = chance_of d.stream drop_p in
     let k = pick_of c.stream n in
-    let less : BeatsDraw = record { beats = remove_of d.beats k.value; stream = k.stream } in
-    let same : BeatsDraw = record { beats = d.beats; stream = c.stream } in
-    cond_by (λ (e : BeatsDraw). Drawing 7 e.beats) (eqb n 0) d (cond c.value less same) (λ (e : eqb n 0 ≡ true). g)
+    let less : Draw Beats = record { value = remove_of d.value k.value; stream = k.stream } in
+    let same : Draw Beats = record { value = d.value; stream = c.stream } in
+    cond_by (λ (e : Draw Beats). Drawing 7 e.value) (eqb n 0) d (cond c.value less same) (λ (e : eqb n 0 ≡ true). g)
     (λ (e : eqb n 0 ≡ false).
-    cond_by (λ (e : BeatsDraw). Drawing 7 e.beats) c.value less same (λ (e : c.value ≡ true). drawing_remove d.beats k.value g) (λ (e : c.value ≡ false). g))
+    cond_by (λ (e : Draw Beats). Drawing 7 e.value) c.value less same (λ (e : c.value ≡ true). drawing_remove d.value k.value g) (λ (e : c.value ≡ false). g))
 
 -- a bar to answer: of at most seven beats, on quarters
 abbrev Heard : Beats → Type 0
@@ -151,19 +150,19 @@ Heard b = (length (list_of b) ≤ 7) × All Quarter (list_of b)
 settled_heard : (b : Beats) → Settled b → Heard b
 settled_heard b t = rw (t.is, list_back t.beats) (t.few, t.quartered)
 
-answer_bar_settled : (s : NoiseStream) (b : Beats) → Heard b → Settled (answer_bar_of s b).beats
+answer_bar_settled : (s : NoiseStream) (b : Beats) → Heard b → Settled (answer_bar_of s b).value
 unfolding answer_bar_of varied_of
 answer_bar_settled s b h =
     let v = foldl vary_of (empty_from s) (list_of b) in
-    settled_by (drop_one_of v).beats (drawing_drop v (drawing_fold vary_of drawing_vary 0 (empty_from s) (list_of b) (omega (arith, h.0)) drawing_none h.1))
+    settled_by (drop_one_of v).value (drawing_drop v (drawing_fold vary_of drawing_vary 0 (empty_from s) (list_of b) (omega (arith, h.0)) drawing_none h.1))
 
 -- ---- all bars
-state_settled : (style : LeadStyle) (s : NoiseStream) (n : ℕ) → All Settled (state_to style s n).bars
+state_settled : (style : LeadStyle) (s : NoiseStream) (n : ℕ) → All Settled (state_to style s n).value
 unfolding state_to state_of
 state_settled style s zero = (settled_none, (settled_none, (settled_none, (settled_none, (settled_none, (settled_none, (settled_none, (settled_none, tt))))))))
 state_settled style s (suc n) =
     let r = state_to style s n in
-    all_set Settled r.bars n (statement_bar_of r.stream style).beats (statement_bar_settled r.stream style) (state_settled style s n)
+    all_set Settled r.value n (statement_bar_of r.stream style).value (statement_bar_settled r.stream style) (state_settled style s n)
 
 fallback_settled : (bars : List Beats) → All Settled bars → All Settled (fallback_of bars)
 unfolding fallback_of mul of_int of_bits
@@ -173,29 +172,29 @@ fallback_settled bars a =
     cond_by (All Settled) (ltb (notes_in bars) 2) (set (set bars 0 fallback_first) 2 fallback_third) bars
     (λ (e : ltb (notes_in bars) 2 ≡ true). all_set Settled (set bars 0 fallback_first) 2 fallback_third third (all_set Settled bars 0 fallback_first first a)) (λ (e : ltb (notes_in bars) 2 ≡ false). a)
 
-reply_settled : (r : Rhythm) (n : ℕ) → All Settled r.bars → All Settled (reply_to r n).bars
+reply_settled : (r : Draw (List Beats)) (n : ℕ) → All Settled r.value → All Settled (reply_to r n).value
 unfolding reply_to reply_of
 reply_settled r zero a = a
 reply_settled r (suc n) a =
     let q = reply_to r n in
     let t = reply_settled r n a in
-    let b = get_or q.bars n past_beats in
-    all_set Settled q.bars (4 + n) (answer_bar_of q.stream b).beats (answer_bar_settled q.stream b (heard_at q.bars n t)) t
+    let b = get_or q.value n past_beats in
+    all_set Settled q.value (4 + n) (answer_bar_of q.stream b).value (answer_bar_settled q.stream b (heard_at q.value n t)) t
   where
     heard_at : (bars : List Beats) (k : ℕ) → All Settled bars → Heard (get_or bars k past_beats)
     heard_at [] k a = (omega arith, tt)
     heard_at (x ∷ xs) zero a = settled_heard x a.0
     heard_at (x ∷ xs) (suc k) a = heard_at xs k a.1
 
-pub rhythm_settled : (s : NoiseStream) (style : LeadStyle) → All Settled (rhythm_of s style).bars
+pub rhythm_settled : (s : NoiseStream) (style : LeadStyle) → All Settled (rhythm_of s style).value
 unfolding rhythm_of statement_of
-rhythm_settled s style = reply_settled (statement_of s style) 4 (fallback_settled (state_to style s 4).bars (state_settled style s 4))
+rhythm_settled s style = reply_settled (statement_of s style) 4 (fallback_settled (state_to style s 4).value (state_settled style s 4))
 
 -- ---- what a reader wants of each bar
-length_state : (style : LeadStyle) (s : NoiseStream) (n : ℕ) → length (state_to style s n).bars ≡ 8
+length_state : (style : LeadStyle) (s : NoiseStream) (n : ℕ) → length (state_to style s n).value ≡ 8
 unfolding state_to state_of
 length_state style s zero = refl
-length_state style s (suc n) = length-set (state_to style s n).bars n _ ∙ length_state style s n
+length_state style s (suc n) = length-set (state_to style s n).value n _ ∙ length_state style s n
 
 length_fallback : (bars : List Beats) → length (fallback_of bars) ≡ length bars
 unfolding fallback_of
@@ -203,21 +202,21 @@ length_fallback bars =
     cond_by (λ (out : List Beats). length out ≡ length bars) (ltb (notes_in bars) 2) (set (set bars 0 fallback_first) 2 fallback_third) bars
     (λ (e : ltb (notes_in bars) 2 ≡ true). length-set (set bars 0 fallback_first) 2 fallback_third ∙ length-set bars 0 fallback_first) (λ (e : ltb (notes_in bars) 2 ≡ false). refl)
 
-length_reply : (r : Rhythm) (n : ℕ) → length (reply_to r n).bars ≡ length r.bars
+length_reply : (r : Draw (List Beats)) (n : ℕ) → length (reply_to r n).value ≡ length r.value
 unfolding reply_to reply_of
 length_reply r zero = refl
-length_reply r (suc n) = length-set (reply_to r n).bars (4 + n) _ ∙ length_reply r n
+length_reply r (suc n) = length-set (reply_to r n).value (4 + n) _ ∙ length_reply r n
 
-pub rhythm_length : (s : NoiseStream) (style : LeadStyle) → length (rhythm_of s style).bars ≡ 8
+pub rhythm_length : (s : NoiseStream) (style : LeadStyle) → length (rhythm_of s style).value ≡ 8
 unfolding rhythm_of statement_of
-rhythm_length s style = length_reply (statement_of s style) 4 ∙ length_fallback (state_to style s 4).bars ∙ length_state style s 4
+rhythm_length s style = length_reply (statement_of s style) 4 ∙ length_fallback (state_to style s 4).value ∙ length_state style s 4
 
 module _ (s : NoiseStream) (style : LeadStyle) (k : ℕ) (h : k < 8) where
   abbrev bar : Beats
-  bar = get_or (rhythm_of s style).bars k past_beats
+  bar = get_or (rhythm_of s style).value k past_beats
 
   pub rhythm_bar : Settled bar
-  rhythm_bar = all_at Settled (rhythm_of s style).bars k past_beats (omega (arith, rhythm_length s style)) (rhythm_settled s style)
+  rhythm_bar = all_at Settled (rhythm_of s style).value k past_beats (omega (arith, rhythm_length s style)) (rhythm_settled s style)
 
   pub rhythm_few : bar.n ≤ 7
   rhythm_few = rw rhythm_bar.is rhythm_bar.few

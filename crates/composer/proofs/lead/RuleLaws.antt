@@ -91,12 +91,12 @@ rule_said bar b i heads from prev tone = go (eqb bar 4) (is_strong_of (get_or b.
     go false strong t e = rest strong t
 
 -- ---- the role by the line
-role_by : (l : Line) (p : Place) → (role_of l p).role ≡ rule_by p l.heads l.from l.prev (tone_drawn l.stream)
+role_by : (l : Line) (p : Place) → (role_of l p).value ≡ rule_by p l.heads l.from l.prev (tone_drawn l.stream)
 unfolding role_of chance_role_of rule_by
 role_by l p = by_cases (quotes_of p l.heads) p.last (peaks_of p) (leapt_of l.from l.prev) p.strong (tone_drawn l.stream) l.stream (chance_of l.stream tone_chance).stream
   where
     by_cases : (a b c d e f : Bool) (s t : NoiseStream)
-        → ◌≡◌ {A = Role} (cond a (chosen_of Quote s) (cond b (chosen_of Close s) (cond c (chosen_of Peak s) (cond d (chosen_of Resolve s) (cond e (chosen_of ChordTone s) (cond f (chosen_of ChordTone t) (chosen_of Passing t))))))).role
+        → ◌≡◌ {A = Role} (cond a (chosen_of Quote s) (cond b (chosen_of Close s) (cond c (chosen_of Peak s) (cond d (chosen_of Resolve s) (cond e (chosen_of ChordTone s) (cond f (chosen_of ChordTone t) (chosen_of Passing t))))))).value
         (cond a Quote (cond b Close (cond c Peak (cond d Resolve (cond e ChordTone (cond f ChordTone Passing))))))
     by_cases true b c d e f s t = refl
     by_cases false true c d e f s t = refl

@@ -13,16 +13,14 @@ use lib.Ieee.{Float}
 use borrow.Author.Tests.{ltb-true, ltb-false}
 use Rattle.laws.specs.Lists.{list_to}
 use Rattle.streams.specs.Draw.{chance_of}
-use Rattle.streams.specs.declared.draw.ChanceDraw.{ChanceDraw}
 use Rattle.streams.specs.declared.stream.NoiseStream.{NoiseStream}
+use Rattle.streams.specs.declared.stream.Draw.{Draw}
 use Rattle.composer.specs.Note.{zero32}
 use Rattle.composer.specs.Lead.Beats.{beats_of, add_of, settled}
 use Rattle.composer.specs.Lead.Grid.{grid_beat_of}
 use Rattle.composer.specs.Lead.Push.{push_of, push_on_of}
 use Rattle.composer.specs.Lead.Statement.{empty_from, notes_of, slot_of, slots_of, pushes_of, settled_of}
-use Rattle.composer.specs.declared.spread.Drawn.{Drawn}
 use Rattle.composer.specs.declared.lead.beats.Beats.{Beats}
-use Rattle.composer.specs.declared.lead.push.BeatsDraw.{BeatsDraw}
 use Rattle.composer.proofs.lead.BeatsLaws.{list_back, add_beats}
 use Rattle.laws.proofs.Written.{Written, written_none, written_over, written_more, written_list}
 
@@ -33,7 +31,7 @@ kept_to sounds (suc n) = kept_to sounds n ++ cond (get_or sounds n false) (grid_
 
 -- ---- which slots sound
 module _ (p : Float) (s : NoiseStream) where
-  abbrev slots_to : ℕ → BeatsDraw
+  abbrev slots_to : ℕ → Draw Beats
   slots_to i = foldl (slot_of p) (empty_from s) (list_to grid_beat_of i)
 
   pub record Sounding (sounds : List Bool) (stream : NoiseStream) (i : ℕ) : Type 0 where
@@ -48,16 +46,16 @@ module _ (p : Float) (s : NoiseStream) where
   unfolding list_to
   slots_on i = ap slots_to (add-one i) ∙ foldl-append (slot_of p) (empty_from s) (list_to grid_beat_of i) (grid_beat_of i ∷ [])
 
-  slot_stream : (d : BeatsDraw) (x : Float) → (slot_of p d x).stream ≡ (chance_of d.stream p).stream
+  slot_stream : (d : Draw Beats) (x : Float) → (slot_of p d x).stream ≡ (chance_of d.stream p).stream
   unfolding slot_of
   slot_stream d x = refl
 
-  pub sounding_on : (sounds : List Bool) (stream : NoiseStream) (i : ℕ) (c : ChanceDraw) → length sounds ≡ 7 → i < 7 → Sounding sounds stream i → c ≡ chance_of stream p
+  pub sounding_on : (sounds : List Bool) (stream : NoiseStream) (i : ℕ) (c : Draw Bool) → length sounds ≡ 7 → i < 7 → Sounding sounds stream i → c ≡ chance_of stream p
       → Sounding (set sounds i c.value) c.stream (i + 1)
   sounding_on sounds stream i c l h t e =
       let f : c ≡ chance_of (slots_to i).stream p = e ∙ ap (λ (q : NoiseStream). chance_of q p) t.after in
       record {
-        after = ap (λ (d : ChanceDraw). d.stream) f ∙ sym (slot_stream (slots_to i) (grid_beat_of i)) ∙ sym (ap (λ (d : BeatsDraw). d.stream) (slots_on i));
+        after = ap (λ (d : Draw Bool). d.stream) f ∙ sym (slot_stream (slots_to i) (grid_beat_of i)) ∙ sym (ap (λ (d : Draw Beats). d.stream) (slots_on i));
         each = λ (j : ℕ) (k : j < i + 1). at f j k (ltb j i) refl;
       }
     where
@@ -67,7 +65,7 @@ module _ (p : Float) (s : NoiseStream) where
           let m = ltb-false j i g in
           let q : i ≡ j = omega arith in
           subst (λ (n : ℕ). get_or (set sounds i c.value) n false ≡ (chance_of (slots_to n).stream p).value) q
-          (get_or-set_same sounds i c.value false (omega arith) ∙ ap (λ (d : ChanceDraw). d.value) f)
+          (get_or-set_same sounds i c.value false (omega arith) ∙ ap (λ (d : Draw Bool). d.value) f)
 
   length_kept : (sounds : List Bool) (i : ℕ) → length (kept_to sounds i) ≤ i
   unfolding kept_to
@@ -78,7 +76,7 @@ module _ (p : Float) (s : NoiseStream) where
       go true h = let l : length (kept_to sounds i ++ (grid_beat_of i ∷ [])) ≡ length (kept_to sounds i) + 1 = length-append (kept_to sounds i) (grid_beat_of i ∷ []) in omega arith
       go false h = rw append-nil (omega arith)
 
-  slot_beats : (d : BeatsDraw) (x : Float) (xs : List Float) (b : Bool) → length xs < 7 → d.beats ≡ beats_of xs → b ≡ (chance_of d.stream p).value → (slot_of p d x).beats ≡ beats_of (xs ++ cond b (x ∷ []) [])
+  slot_beats : (d : Draw Beats) (x : Float) (xs : List Float) (b : Bool) → length xs < 7 → d.value ≡ beats_of xs → b ≡ (chance_of d.stream p).value → (slot_of p d x).value ≡ beats_of (xs ++ cond b (x ∷ []) [])
   unfolding slot_of
   slot_beats d x xs b h e f = rw (← f, e) (go b)
     where
@@ -87,35 +85,35 @@ module _ (p : Float) (s : NoiseStream) where
       go false = rw append-nil
 
   -- the slots drawn are those that sound
-  kept_is : (sounds : List Bool) (i : ℕ) → i ≤ 7 → ((j : ℕ) → j < i → get_or sounds j false ≡ (chance_of (slots_to j).stream p).value) → (slots_to i).beats ≡ beats_of (kept_to sounds i)
+  kept_is : (sounds : List Bool) (i : ℕ) → i ≤ 7 → ((j : ℕ) → j < i → get_or sounds j false ≡ (chance_of (slots_to j).stream p).value) → (slots_to i).value ≡ beats_of (kept_to sounds i)
   unfolding kept_to list_to
   kept_is sounds zero h each = refl
   kept_is sounds (suc i) h each =
       let k = length_kept sounds i in
       let before = kept_is sounds i (omega arith) (λ (j : ℕ) (l : j < i). each j (omega arith)) in
-      ap (λ (n : ℕ). (slots_to n).beats) (sym (add-one i))
-      ∙ ap (λ (d : BeatsDraw). d.beats) (slots_on i)
+      ap (λ (n : ℕ). (slots_to n).value) (sym (add-one i))
+      ∙ ap (λ (d : Draw Beats). d.value) (slots_on i)
       ∙ slot_beats (slots_to i) (grid_beat_of i) (kept_to sounds i) (get_or sounds i false) (omega arith) before (each i (omega arith))
 
 -- ---- their beats, pushed
-pub record Held (d : BeatsDraw) (at : List Float) (n : ℕ) (stream : NoiseStream) : Type 0 where
+pub record Held (d : Draw Beats) (at : List Float) (n : ℕ) (stream : NoiseStream) : Type 0 where
   pub xs : List Float
-  pub is : d.beats ≡ beats_of xs
+  pub is : d.value ≡ beats_of xs
   pub written : Written zero32 7 xs at n
   pub after : stream ≡ d.stream
 
 pub held_none : (s : NoiseStream) → Held (empty_from s) (replicate 7 zero32) 0 s
 held_none s = record { xs = []; is = refl; written = written_none zero32 7; after = refl }
 
-push_beats : (d : BeatsDraw) (x : Float) (q : Drawn) (xs : List Float) → length xs < 7 → d.beats ≡ beats_of xs → q ≡ push_of d.stream x → (push_on_of d x).beats ≡ beats_of (xs ++ (q.value ∷ []))
+push_beats : (d : Draw Beats) (x : Float) (q : Draw Float) (xs : List Float) → length xs < 7 → d.value ≡ beats_of xs → q ≡ push_of d.stream x → (push_on_of d x).value ≡ beats_of (xs ++ (q.value ∷ []))
 unfolding push_on_of
 push_beats d x q xs h e f = rw (← f, e) (add_beats xs q.value h)
 
-push_after : (d : BeatsDraw) (x : Float) (q : Drawn) → q ≡ push_of d.stream x → q.stream ≡ (push_on_of d x).stream
+push_after : (d : Draw Beats) (x : Float) (q : Draw Float) → q ≡ push_of d.stream x → q.stream ≡ (push_on_of d x).stream
 unfolding push_on_of
-push_after d x q f = ap (λ (r : Drawn). r.stream) f
+push_after d x q f = ap (λ (r : Draw Float). r.stream) f
 
-held_on : (d : BeatsDraw) (at : List Float) (n : ℕ) (stream : NoiseStream) (x : Float) (q : Drawn) (b : Bool) → n < 7 → Held d at n stream → q ≡ push_of stream x
+held_on : (d : Draw Beats) (at : List Float) (n : ℕ) (stream : NoiseStream) (x : Float) (q : Draw Float) (b : Bool) → n < 7 → Held d at n stream → q ≡ push_of stream x
     → Held (foldl push_on_of d (cond b (x ∷ []) [])) (set at n q.value) (n + notes_of b) (cond b q.stream stream)
 held_on d at n stream x q true h t e =
     let f : q ≡ push_of d.stream x = e ∙ ap (λ (s : NoiseStream). push_of s x) t.after in
@@ -126,7 +124,7 @@ held_on d at n stream x q false h t e =
     record { xs = t.xs; is = t.is; written = subst (λ (m : ℕ). Written zero32 7 t.xs (set at n q.value) m) k (written_over zero32 7 t.xs at n q.value t.written); after = t.after }
 
 -- a turn of the loop that pushes
-pub held_turn : (sounds : List Bool) (s : NoiseStream) (i : ℕ) (at : List Float) (n : ℕ) (stream : NoiseStream) (q : Drawn) (m : ℕ) (next : NoiseStream) → n < 7
+pub held_turn : (sounds : List Bool) (s : NoiseStream) (i : ℕ) (at : List Float) (n : ℕ) (stream : NoiseStream) (q : Draw Float) (m : ℕ) (next : NoiseStream) → n < 7
     → Held (foldl push_on_of (empty_from s) (kept_to sounds i)) at n stream → q ≡ push_of stream (grid_beat_of i) → m ≡ notes_of (get_or sounds i false)
     → next ≡ cond (get_or sounds i false) q.stream stream → Held (foldl push_on_of (empty_from s) (kept_to sounds (i + 1))) (set at n q.value) (n + m) next
 unfolding kept_to
@@ -137,10 +135,10 @@ held_turn sounds s i at n stream q m next h t e f g =
     (held_on (foldl push_on_of (empty_from s) (kept_to sounds i)) at n stream x q b h t e)
 
 -- ---- the bar
-abbrev beats_beside : Beats → NoiseStream → BeatsDraw
-beats_beside b s = record { beats = b; stream = s }
+abbrev beats_beside : Beats → NoiseStream → Draw Beats
+beats_beside b s = record { value = b; stream = s }
 
-held_settled : (d : BeatsDraw) (at : List Float) (n : ℕ) (stream : NoiseStream) (done : Beats) → Held d at n stream → done ≡ beats_of (settled (take n at)) → beats_beside done stream ≡ settled_of d
+held_settled : (d : Draw Beats) (at : List Float) (n : ℕ) (stream : NoiseStream) (done : Beats) → Held d at n stream → done ≡ beats_of (settled (take n at)) → beats_beside done stream ≡ settled_of d
 held_settled d at n stream done t e =
     let xs = t.xs in
     rw (e, t.after, written_list zero32 7 xs at n t.written, t.is, list_back xs)
@@ -152,4 +150,4 @@ pushes_are p s sounds st t = rw (t.after, kept_is p s sounds 7 (omega arith) t.e
 pub statement_done : (p : Float) (s : NoiseStream) (sounds : List Bool) (st : NoiseStream) (at : List Float) (n : ℕ) (stream : NoiseStream) (done : Beats)
     → Sounding p s sounds st 7 → Held (foldl push_on_of (empty_from st) (kept_to sounds 7)) at n stream → done ≡ beats_of (settled (take n at))
     → beats_beside done stream ≡ settled_of (pushes_of (slots_of s p))
-statement_done p s sounds st at n stream done t u e = held_settled _ at n stream done u e ∙ ap (λ (d : BeatsDraw). settled_of d) (sym (pushes_are p s sounds st t))
+statement_done p s sounds st at n stream done t u e = held_settled _ at n stream done u e ∙ ap (λ (d : Draw Beats). settled_of d) (sym (pushes_are p s sounds st t))

@@ -6,7 +6,7 @@ use Rattle.std.specs.Float.Ieee.{of_bits, add, sub, mul, lt}
 use Rattle.laws.specs.Floats.{f32_of}
 use Rattle.streams.specs.Draw.{chance_of}
 use Rattle.streams.specs.declared.stream.NoiseStream.{NoiseStream}
-use Rattle.streams.specs.declared.draw.ChanceDraw.{ChanceDraw}
+use Rattle.streams.specs.declared.stream.Draw.{Draw}
 use Rattle.composer.specs.Chord.{in_octave_from}
 use Rattle.composer.specs.Spread.{draw_of, after_of}
 use Rattle.composer.specs.Timing.{sixteenth_beats, bar_s_of, bar_start_of}
@@ -19,7 +19,7 @@ use Rattle.composer.specs.declared.bass.BassLane.{BassLane}
 use Rattle.composer.specs.declared.bass.rhythm.Steps.{Steps}
 use Rattle.composer.specs.declared.bass.line.BarPart.{BarPart}
 use Rattle.composer.specs.declared.bass.line.Strike.{Strike}
-use Rattle.composer.specs.declared.bass.line.PlayedNote.{PlayedNote}
+use Rattle.composer.specs.declared.note.Note.{Note}
 
 -- ---- the constants: lag 0.014 and 0.010, a later note 0.14 softer; pickup's lag 0.012 and 0.008, its velocity 0.34
 -- and 0.06
@@ -55,16 +55,16 @@ abbrev pub pickup_pitch_of : ℕ → ℕ
 pickup_pitch_of pc = bass_pitch_of pc - 1
 
 -- ---- the three kinds of note; each draws its lag, then its velocity
-unfoldable pub struck_of : NoiseStream → Float → ℕ → Spread → Spread → Strike
+unfoldable pub struck_of : NoiseStream → Float → ℕ → Spread → Spread → Draw Strike
 struck_of s on midi lag velocity =
     let a = after_of lag on s in
     let v = draw_of velocity a.stream in
-    record { at = a.value; midi = midi; vel = v.value; stream = v.stream }
+    record { value = record { at = a.value; midi = midi; vel = v.value }; stream = v.stream }
 
-unfoldable pub root_note_of : NoiseStream → Float → BarPart → BassStyle → Strike
+unfoldable pub root_note_of : NoiseStream → Float → BarPart → BassStyle → Draw Strike
 root_note_of s on p style = struck_of s on (bass_pitch_of p.root_pc) bass_lag style.velocity
 
-unfoldable pub pickup_note_of : NoiseStream → Float → BarPart → Strike
+unfoldable pub pickup_note_of : NoiseStream → Float → BarPart → Draw Strike
 pickup_note_of s on p = struck_of s on (pickup_pitch_of p.next_pc) pickup_lag pickup_velocity
 
 abbrev pub later_velocity : Spread → Spread
@@ -74,7 +74,7 @@ abbrev pub later_pitch_of : ℕ → Bool → ℕ
 later_pitch_of pc fifth = cond fifth (bass_pitch_of (pc + 7)) (bass_pitch_of pc)
 
 -- the fifth by its chance, else the root
-unfoldable pub later_note_of : NoiseStream → Float → BarPart → BassStyle → Strike
+unfoldable pub later_note_of : NoiseStream → Float → BarPart → BassStyle → Draw Strike
 later_note_of s on p style =
     let c = chance_of s style.fifth_p in
     struck_of c.stream on (later_pitch_of p.root_pc c.value) bass_lag (later_velocity style.velocity)
@@ -84,11 +84,11 @@ later_note_of s on p style =
 abbrev pub ends_late : Steps → ℕ → Bool
 ends_late t i = eqb (i + 1) t.n && leb 12 (get_or t.at i 0)
 
-unfoldable pub pickup_drawn_of : NoiseStream → BarPart → BassStyle → ℕ → ChanceDraw
+unfoldable pub pickup_drawn_of : NoiseStream → BarPart → BassStyle → ℕ → Draw Bool
 pickup_drawn_of s p style i = cond (ends_late p.steps i) (odds_of style.pickup_p s) (record { value = false; stream = s })
 
 -- in the last bar a pickup is drawn and then not played
-unfoldable pub note_drawn_of : NoiseStream → Float → BarPart → BassStyle → ℕ → Strike
+unfoldable pub note_drawn_of : NoiseStream → Float → BarPart → BassStyle → ℕ → Draw Strike
 note_drawn_of s on p style i =
     let c = pickup_drawn_of s p style i in
     cond (eqb i 0) (root_note_of s on p style)
@@ -111,11 +111,11 @@ held_of beatS gap at =
 
 -- ---- the bar
 -- note i as it sounds
-unfoldable pub played_note_of : NoiseStream → BarPart → BassStyle → Float → ℕ → PlayedNote
+unfoldable pub played_note_of : NoiseStream → BarPart → BassStyle → Float → ℕ → Draw Note
 played_note_of s p style beatS i =
     let d = note_drawn_of s (onset_of beatS p.bar (get_or p.steps.at i 0)) p style i in
     record {
-      note = record { bar = p.bar; role = NoteRole.Backing; spare = 0; at = d.at; midi = d.midi; vel = d.vel; dur = held_of beatS (gap_of p i) d.at };
+      value = record { bar = p.bar; role = NoteRole.Backing; spare = 0; at = d.value.at; midi = d.value.midi; vel = d.value.vel; dur = held_of beatS (gap_of p i) d.value.at };
       stream = d.stream;
     }
 
@@ -123,7 +123,7 @@ played_note_of s p style beatS i =
 unfoldable pub play_of : BassLane → BarPart → BassStyle → Float → ℕ → BassLane
 play_of l p style beatS i =
     let d = played_note_of l.stream p style beatS i in
-    record { notes = set l.notes l.count d.note; count = l.count + 1; stream = d.stream }
+    record { notes = set l.notes l.count d.value; count = l.count + 1; stream = d.stream }
 
 -- the bar's first i notes
 unfoldable pub bar_played : BassLane → BarPart → BassStyle → Float → ℕ → BassLane

@@ -5,6 +5,7 @@ use Rattle.std.specs.Float.Ieee.{of_bits, add, mul, div, ne}
 use Rattle.laws.specs.Floats.{f32_of, fract_of}
 use Rattle.streams.specs.Draw.{chance_of}
 use Rattle.streams.specs.declared.stream.NoiseStream.{NoiseStream}
+use Rattle.streams.specs.declared.stream.Draw.{Draw}
 use Rattle.composer.specs.Note.{zero32}
 use Rattle.composer.specs.Spread.{draw_of, jitter_of}
 use Rattle.composer.specs.Timing.{swing_delay_of, held_at_zero}
@@ -16,7 +17,7 @@ use Rattle.composer.specs.declared.drums.DrumLane.{DrumLane}
 use Rattle.composer.specs.declared.drums.grooves.Kick.{Kick}
 use Rattle.composer.specs.declared.drums.grooves.Groove.{Groove}
 use Rattle.composer.specs.declared.drums.kit.Bar.{Bar}
-use Rattle.composer.specs.declared.drums.kit.Struck.{Struck}
+use Rattle.composer.specs.declared.note.Hit.{Hit}
 
 -- ---- a bar's times
 abbrev pub bar_at : Bar → Float → Float
@@ -35,8 +36,8 @@ abbrev pub drawn_on : DrumLane → NoiseStream → DrumLane
 drawn_on l s = record { hits = l.hits; count = l.count; stream = s }
 
 -- one hit more, and the stream after its draws
-abbrev pub struck_of : DrumLane → Struck → DrumLane
-struck_of l d = record { hits = set l.hits l.count d.hit; count = l.count + 1; stream = d.stream }
+abbrev pub struck_of : DrumLane → Draw Hit → DrumLane
+struck_of l d = record { hits = set l.hits l.count d.value; count = l.count + 1; stream = d.stream }
 
 -- 0.95 and 0.1
 abbrev pub hit_accent : Spread
@@ -56,13 +57,13 @@ kick_slot_of bar dragS beat =
 abbrev pub kick_beat_of : Kick → ℕ → Float
 kick_beat_of k number = cond (eqb (number % 2) 0) k.even k.odd
 
-unfoldable pub kick_hit_of : NoiseStream → Bar → Float → Kick → Struck
+unfoldable pub kick_hit_of : NoiseStream → Bar → Float → Kick → Draw Hit
 kick_hit_of s bar dragS k =
     let slot = kick_slot_of bar dragS (kick_beat_of k bar.number) in
     let j = jitter_of kick_jitter s in
     let a = draw_of hit_accent j.stream in
     record {
-      hit = record {
+      value = record {
         bar = bar.number;
         spare = 0;
         at = held_at_zero (add binary32 slot j.value);
@@ -98,12 +99,12 @@ snare_drag_s = of_bits binary32 0x3c03_126f
 abbrev pub snare_jitter : Jitter
 snare_jitter = record { early = of_bits binary32 0x3e99_999a; width = of_bits binary32 0x3c03_126f }
 
-unfoldable pub snare_hit_of : NoiseStream → Bar → Float → Float → Struck
+unfoldable pub snare_hit_of : NoiseStream → Bar → Float → Float → Draw Hit
 snare_hit_of s bar beat gain =
     let j = jitter_of snare_jitter s in
     let a = draw_of hit_accent j.stream in
     record {
-      hit = record {
+      value = record {
         bar = bar.number;
         spare = 0;
         at = held_at_zero (add binary32 (add binary32 (bar_at bar beat) snare_drag_s) j.value);
@@ -139,12 +140,12 @@ hat_slot_of bar swing e =
 abbrev pub hat_kind_of : Bool → Bar → ℕ → DrumKind
 hat_kind_of openHat bar e = cond (openHat && ends_statement bar && eqb e 7) DrumKind.OpenHat DrumKind.Hat
 
-unfoldable pub hat_hit_of : NoiseStream → Groove → Bar → ℕ → Struck
+unfoldable pub hat_hit_of : NoiseStream → Groove → Bar → ℕ → Draw Hit
 hat_hit_of s g bar e =
     let j = jitter_of hat_jitter s in
     let v = draw_of g.hats.velocity j.stream in
     record {
-      hit = record {
+      value = record {
         bar = bar.number;
         spare = 0;
         at = held_at_zero (add binary32 (hat_slot_of bar g.hats.swing e) j.value);

@@ -6,6 +6,7 @@ use Rattle.laws.specs.Lists.{list_to}
 use Rattle.streams.specs.Stream.{after, unit_at}
 use Rattle.streams.specs.Draw.{picked_of}
 use Rattle.streams.specs.declared.stream.NoiseStream.{NoiseStream}
+use Rattle.streams.specs.declared.stream.Draw.{Draw}
 use Rattle.composer.specs.Band.{band_of}
 use Rattle.composer.specs.Form.Plays.{silent, bed, with_keys, keys_bass, keys_drums, drums_bass}
 use Rattle.composer.specs.declared.form.ends.Edge.{Edge}
@@ -14,8 +15,6 @@ use Rattle.composer.specs.declared.form.decisions.Closing.{Closing}
 use Rattle.composer.specs.declared.form.decisions.Thinning.{Thinning}
 use Rattle.composer.specs.declared.form.decisions.Cut.{Cut}
 use Rattle.composer.specs.declared.form.decisions.Decisions.{Decisions}
-use Rattle.composer.specs.declared.form.decisions.Decided.{Decided}
-use Rattle.composer.specs.declared.form.decisions.Units.{Units}
 
 -- ---- the tables
 abbrev pub openings : List Opening
@@ -127,15 +126,15 @@ decisions_by draw = record {
   long_outro = lt (draw 29) (long_outro_p (closing_of (draw 28)));
 }
 
-unfoldable pub decide_of : NoiseStream → Decided
-decide_of s = record { decisions = decisions_by (unit_at s); stream = after s 29 }
+unfoldable pub decide_of : NoiseStream → Draw Decisions
+decide_of s = record { value = decisions_by (unit_at s); stream = after s 29 }
 
 -- ---- as the code has the draws: in an array, draw n at n - 1
 abbrev pub unit_from : NoiseStream → ℕ → Float
 unit_from s i = unit_at s (i + 1)
 
-unfoldable pub draw_all_of : NoiseStream → Units
-draw_all_of s = record { values = list_to (unit_from s) 29; stream = after s 29 }
+unfoldable pub draw_all_of : NoiseStream → Draw (List Float)
+draw_all_of s = record { value = list_to (unit_from s) 29; stream = after s 29 }
 
 abbrev pub listed : List Float → ℕ → Float
 listed us n = get_or us (n - 1) nan

@@ -74,7 +74,7 @@ form_of d = record {
 }
 
 abbrev pub decisions_of : ℕ → Decisions
-decisions_of seed = (decide_of (stream_of Stage.Form seed)).decisions
+decisions_of seed = (decide_of (stream_of Stage.Form seed)).value
 
 abbrev pub arrange_of : ℕ → Form
 arrange_of seed = form_of (decisions_of seed)

@@ -5,13 +5,12 @@ use Rattle.std.specs.Float.{binary32}
 use Rattle.std.specs.Float.Ieee.{of_bits, lt, add, neg}
 use Rattle.streams.specs.Draw.{chance_of, coin_of, pick_of}
 use Rattle.streams.specs.declared.stream.NoiseStream.{NoiseStream}
+use Rattle.streams.specs.declared.stream.Draw.{Draw}
 use Rattle.composer.specs.Lead.Beats.{list_of, remove_of}
 use Rattle.composer.specs.Lead.Grid.{grid_first, grid_last}
 use Rattle.composer.specs.Lead.Push.{push_on_of}
 use Rattle.composer.specs.Lead.Statement.{empty_from, settled_of}
-use Rattle.composer.specs.declared.spread.Drawn.{Drawn}
 use Rattle.composer.specs.declared.lead.beats.Beats.{Beats}
-use Rattle.composer.specs.declared.lead.push.BeatsDraw.{BeatsDraw}
 
 -- 0.2
 abbrev pub shift_p : Float
@@ -33,7 +32,7 @@ abbrev pub clamp_of : Float → Float
 clamp_of x = cond (lt x grid_first) grid_first (cond (lt grid_last x) grid_last x)
 
 -- a beat that may shift an eighth either way, by a coin
-unfoldable pub shift_of : NoiseStream → Float → Drawn
+unfoldable pub shift_of : NoiseStream → Float → Draw Float
 shift_of s beat =
     let c = chance_of s shift_p in
     let up = coin_of c.stream in
@@ -41,22 +40,22 @@ shift_of s beat =
     (record { value = beat; stream = c.stream })
 
 -- one beat more, shifted and then pushed
-unfoldable pub vary_of : BeatsDraw → Float → BeatsDraw
+unfoldable pub vary_of : Draw Beats → Float → Draw Beats
 vary_of d beat =
     let m = shift_of d.stream beat in
-    push_on_of (record { beats = d.beats; stream = m.stream }) m.value
+    push_on_of (record { value = d.value; stream = m.stream }) m.value
 
-unfoldable pub varied_of : NoiseStream → Beats → BeatsDraw
+unfoldable pub varied_of : NoiseStream → Beats → Draw Beats
 varied_of s b = foldl vary_of (empty_from s) (list_of b)
 
 -- a bar that is not empty may lose one beat
-unfoldable pub drop_one_of : BeatsDraw → BeatsDraw
+unfoldable pub drop_one_of : Draw Beats → Draw Beats
 drop_one_of d =
-    let n = d.beats.n in
+    let n = d.value.n in
     let c = chance_of d.stream drop_p in
     let k = pick_of c.stream n in
     cond (eqb n 0) d
-    (cond c.value (record { beats = remove_of d.beats k.value; stream = k.stream }) (record { beats = d.beats; stream = c.stream }))
+    (cond c.value (record { value = remove_of d.value k.value; stream = k.stream }) (record { value = d.value; stream = c.stream }))
 
-unfoldable pub answer_bar_of : NoiseStream → Beats → BeatsDraw
+unfoldable pub answer_bar_of : NoiseStream → Beats → Draw Beats
 answer_bar_of s b = settled_of (drop_one_of (varied_of s b))

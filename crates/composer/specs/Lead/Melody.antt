@@ -43,9 +43,9 @@ velocity_of Passing x = x
 unfoldable pub step_of : List Bool → Ground → Line → Place → ℕ → LeadStep
 step_of pool g l p first =
     let c = role_of l p in
-    let q = pitch_of c.role c.stream pool g l p first in
+    let q = pitch_of c.value c.stream pool g l p first in
     let d = draw_of g.velocity q.stream in
-    record { note = q.note; role = c.role; vel = velocity_of c.role d.value; line = carried_of l p.bar q.note d.stream }
+    record { note = q.value; role = c.value; vel = velocity_of c.value d.value; line = carried_of l p.bar q.value d.stream }
 
 -- the first note sung, or else the one that the line starts from
 abbrev pub opening_of : ℕ → ℕ → ℕ → ℕ

@@ -3,6 +3,7 @@ use Rattle.std.specs.Prelude.{ℕ, zero, suc, ◌+◌, get_or, set, replicate, F
 use Rattle.std.specs.Float.{binary32}
 use Rattle.std.specs.Float.Ieee.{of_bits, add, mul}
 use Rattle.streams.specs.declared.stream.NoiseStream.{NoiseStream}
+use Rattle.streams.specs.declared.stream.Draw.{Draw}
 use Rattle.composer.specs.Note.{no_note}
 use Rattle.composer.specs.Spread.{draw_of, after_of}
 use Rattle.composer.specs.Timing.{bar_start_of}
@@ -12,7 +13,7 @@ use Rattle.composer.specs.declared.spread.Spread.{Spread}
 use Rattle.composer.specs.declared.lead.LeadLane.{LeadLane}
 use Rattle.composer.specs.declared.lead.melody.LeadNote.{LeadNote}
 use Rattle.composer.specs.declared.lead.melody.Sung.{Sung}
-use Rattle.composer.specs.declared.lead.played.PlayedNote.{PlayedNote}
+use Rattle.composer.specs.declared.note.Note.{Note}
 
 -- 0.008 and 0.014
 abbrev pub lead_lag : Spread
@@ -26,17 +27,17 @@ abbrev pub on_grid_of : LeadNote → Float → Float
 on_grid_of x beatS = add binary32 (bar_start_of x.bar beatS) (mul binary32 x.beat beatS)
 
 -- its lag is drawn, then its accent
-unfoldable pub played_note_of : LeadNote → Float → Float → NoiseStream → PlayedNote
+unfoldable pub played_note_of : LeadNote → Float → Float → NoiseStream → Draw Note
 played_note_of x beatS dur s =
     let d = after_of lead_lag (on_grid_of x beatS) s in
     let e = draw_of lead_accent d.stream in
-    record { note = record { bar = x.bar; role = noted_of x.role; spare = 0; at = d.value; midi = x.note; vel = mul binary32 x.vel e.value; dur = dur }; stream = e.stream }
+    record { value = record { bar = x.bar; role = noted_of x.role; spare = 0; at = d.value; midi = x.note; vel = mul binary32 x.vel e.value; dur = dur }; stream = e.stream }
 
 -- one note more
 unfoldable pub play_of : Sung → Float → Float → LeadLane → ℕ → LeadLane
 play_of m beatS dur l i =
     let p = played_note_of (get_or m.notes i past_lead) beatS dur l.stream in
-    record { notes = set l.notes l.count p.note; count = l.count + 1; stream = p.stream }
+    record { notes = set l.notes l.count p.value; count = l.count + 1; stream = p.stream }
 
 -- the first i notes
 unfoldable pub play_to : Sung → Float → Float → LeadLane → ℕ → LeadLane

@@ -4,12 +4,12 @@ use Rattle.std.specs.Float.{binary32}
 use Rattle.std.specs.Float.Ieee.{of_bits}
 use Rattle.streams.specs.Draw.{chance_of}
 use Rattle.streams.specs.declared.stream.NoiseStream.{NoiseStream}
+use Rattle.streams.specs.declared.stream.Draw.{Draw}
 use Rattle.composer.specs.Lead.Tones.{distance_of}
 use Rattle.composer.specs.declared.lead.line.Place.{Place}
 use Rattle.composer.specs.declared.lead.line.Line.{Line}
 use Rattle.composer.specs.declared.lead.role.Role.{Role}
 use Rattle.composer.specs.declared.lead.role.Role.TheVariants.{Quote, Close, Peak, Resolve, ChordTone, Passing}
-use Rattle.composer.specs.declared.lead.role.RoleDraw.{RoleDraw}
 use Rattle.composer.specs.declared.note.NoteRole.{NoteRole}
 
 -- the same role as a note of the score has it
@@ -33,20 +33,20 @@ peaks_of p = eqb p.bar 5 && eqb p.i 0
 abbrev pub leapt_of : ℕ → ℕ → Bool
 leapt_of from prev = ltb 4 (distance_of from prev)
 
-abbrev pub chosen_of : Role → NoiseStream → RoleDraw
-chosen_of role s = record { role = role; stream = s }
+abbrev pub chosen_of : Role → NoiseStream → Draw Role
+chosen_of role s = record { value = role; stream = s }
 
 -- 0.55
 abbrev pub tone_chance : Float
 tone_chance = of_bits binary32 0x3f0c_cccd
 
 -- a chord tone with that chance, or else a passing one
-unfoldable pub chance_role_of : NoiseStream → RoleDraw
+unfoldable pub chance_role_of : NoiseStream → Draw Role
 chance_role_of s =
     let c = chance_of s tone_chance in
     cond c.value (chosen_of ChordTone c.stream) (chosen_of Passing c.stream)
 
-unfoldable pub role_of : Line → Place → RoleDraw
+unfoldable pub role_of : Line → Place → Draw Role
 role_of l p =
     cond (quotes_of p l.heads) (chosen_of Quote l.stream)
     (cond p.last (chosen_of Close l.stream)

@@ -67,7 +67,7 @@ sung_before s beats bars pool style k i =
 -- ---- of a song, by its lead's stream and its harmony
 -- the rhythm of its lead
 abbrev pub song_beats : NoiseStream → Style → List Beats
-song_beats s style = (rhythm_of s (lead_style_of style)).bars
+song_beats s style = (rhythm_of s (lead_style_of style)).value
 
 -- the pitch that its melody starts from
 abbrev pub song_start : Harmony → Style → ℕ

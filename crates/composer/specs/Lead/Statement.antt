@@ -3,38 +3,39 @@ use Rattle.std.specs.Prelude.{Bool, cond, ℕ, Float}
 use mathlib.Core.List.{[], foldl}
 use Rattle.streams.specs.Draw.{chance_of}
 use Rattle.streams.specs.declared.stream.NoiseStream.{NoiseStream}
+use Rattle.streams.specs.declared.stream.Draw.{Draw}
 use Rattle.composer.specs.Lead.Beats.{beats_of, list_of, add_of, settle_of}
 use Rattle.composer.specs.Lead.Grid.{lead_grid}
 use Rattle.composer.specs.Lead.Push.{push_on_of}
 use Rattle.composer.specs.Style.{odds_of}
 use Rattle.composer.specs.declared.style.LeadStyle.{LeadStyle}
-use Rattle.composer.specs.declared.lead.push.BeatsDraw.{BeatsDraw}
+use Rattle.composer.specs.declared.lead.beats.Beats.{Beats}
 
 -- no beat yet
-abbrev pub empty_from : NoiseStream → BeatsDraw
-empty_from s = record { beats = beats_of []; stream = s }
+abbrev pub empty_from : NoiseStream → Draw Beats
+empty_from s = record { value = beats_of []; stream = s }
 
 -- how many notes a slot has
 abbrev pub notes_of : Bool → ℕ
 notes_of sounds = cond sounds 1 0
 
 -- a slot of the grid sounds with the chance p
-unfoldable pub slot_of : Float → BeatsDraw → Float → BeatsDraw
+unfoldable pub slot_of : Float → Draw Beats → Float → Draw Beats
 slot_of p d x =
     let c = chance_of d.stream p in
-    record { beats = cond c.value (add_of d.beats x) d.beats; stream = c.stream }
+    record { value = cond c.value (add_of d.value x) d.value; stream = c.stream }
 
-unfoldable pub slots_of : NoiseStream → Float → BeatsDraw
+unfoldable pub slots_of : NoiseStream → Float → Draw Beats
 slots_of s p = foldl (slot_of p) (empty_from s) lead_grid
 
-unfoldable pub pushes_of : BeatsDraw → BeatsDraw
-pushes_of d = foldl push_on_of (empty_from d.stream) (list_of d.beats)
+unfoldable pub pushes_of : Draw Beats → Draw Beats
+pushes_of d = foldl push_on_of (empty_from d.stream) (list_of d.value)
 
-abbrev pub settled_of : BeatsDraw → BeatsDraw
-settled_of d = record { beats = settle_of d.beats; stream = d.stream }
+abbrev pub settled_of : Draw Beats → Draw Beats
+settled_of d = record { value = settle_of d.value; stream = d.stream }
 
 -- all slots are drawn, then the pushes of those that sound
-unfoldable pub statement_bar_of : NoiseStream → LeadStyle → BeatsDraw
+unfoldable pub statement_bar_of : NoiseStream → LeadStyle → Draw Beats
 statement_bar_of s style =
     let r = odds_of style.rest_p s in
     cond r.value (empty_from r.stream) (settled_of (pushes_of (slots_of r.stream style.note_p)))

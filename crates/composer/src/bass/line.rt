@@ -8,8 +8,8 @@ use crate::note::{Note, NoteRole};
 use crate::spread::Spread;
 use crate::style::BassStyle;
 use crate::timing::{BEATS_PER_BAR, SIXTEENTH_BEATS, bar_start};
-use streams::draw::{ChanceDraw, chance};
-use streams::stream::NoiseStream;
+use streams::draw::chance;
+use streams::stream::{Draw, NoiseStream};
 
 // The lowest note of the bass, but for a pickup: G1.
 const BASS_LOW: u8 = 31;
@@ -46,20 +46,12 @@ pub struct BarPart {
     pub next_step: u8,
 }
 
-// A note as drawn, and the stream after its draws.
+// A note as drawn.
 #[derive(Clone, Copy)]
 pub struct Strike {
     pub at: f32,
     pub midi: u8,
     pub vel: f32,
-    pub stream: NoiseStream,
-}
-
-// A note as played, and the stream after its draws.
-#[derive(Clone, Copy)]
-pub struct PlayedNote {
-    pub note: Note,
-    pub stream: NoiseStream,
 }
 
 // A pitch class in the octave from BASS_LOW up.
@@ -71,40 +63,31 @@ fn bass_pitch(pc: u8) -> u8
 }
 
 // A note due at `on`: its lag, then its velocity.
-fn struck(s: NoiseStream, on: f32, midi: u8, lag: Spread, velocity: Spread) -> Strike
+fn struck(s: NoiseStream, on: f32, midi: u8, lag: Spread, velocity: Spread) -> Draw<Strike>
     ensures { result ≡ struck_of s on midi lag velocity }
 {
-    let a = lag.after(on, s);
-    let sa = a.stream;
-    let v = velocity.draw(sa);
-    let next = v.stream;
-    Strike {
-        at: a.value,
-        midi: midi,
-        vel: v.value,
-        stream: next,
-    }
+    let at = lag.after(on, s);
+    velocity.draw(at.stream).map(|vel| Strike {
+        at: at.value,
+        midi,
+        vel,
+    })
 }
 
-fn root_note(s: NoiseStream, on: f32, p: BarPart, style: BassStyle) -> Strike
+fn root_note(s: NoiseStream, on: f32, p: BarPart, style: BassStyle) -> Draw<Strike>
     requires { p.root_pc < 12 }
     ensures { result ≡ root_note_of s on p style }
 {
-    let midi = bass_pitch(p.root_pc);
-    let lag = BASS_LAG;
-    let velocity = style.velocity;
-    struck(s, on, midi, lag, velocity)
+    struck(s, on, bass_pitch(p.root_pc), BASS_LAG, style.velocity)
 }
 
 // A semitone under the next bar's root.
-fn pickup_note(s: NoiseStream, on: f32, p: BarPart) -> Strike
+fn pickup_note(s: NoiseStream, on: f32, p: BarPart) -> Draw<Strike>
     requires { p.next_pc < 12 }
     ensures { result ≡ pickup_note_of s on p }
 {
     let next = bass_pitch(p.next_pc);
-    let lag = PICKUP_LAG;
-    let velocity = PICKUP_VELOCITY;
-    struck(s, on, next - 1, lag, velocity)
+    struck(s, on, next - 1, PICKUP_LAG, PICKUP_VELOCITY)
 }
 
 // The fifth over a root, or the root.
@@ -120,20 +103,17 @@ fn later_pitch(pc: u8, fifth: bool) -> u8
 }
 
 // The fifth by its chance, else the root.
-fn later_note(s: NoiseStream, on: f32, p: BarPart, style: BassStyle) -> Strike
+fn later_note(s: NoiseStream, on: f32, p: BarPart, style: BassStyle) -> Draw<Strike>
     requires { p.root_pc < 12 }
     ensures { result ≡ later_note_of s on p style }
 {
-    let c = chance(s, style.fifth_p);
-    let sc = c.stream;
-    let midi = later_pitch(p.root_pc, c.value);
-    let root = style.velocity;
-    let lag = BASS_LAG;
+    let fifth = chance(s, style.fifth_p);
+    let midi = later_pitch(p.root_pc, fifth.value);
     let velocity = Spread {
-        base: root.base - LATER_SOFTER,
-        span: root.span,
+        base: style.velocity.base - LATER_SOFTER,
+        span: style.velocity.span,
     };
-    struck(sc, on, midi, lag, velocity)
+    struck(fifth.stream, on, midi, BASS_LAG, velocity)
 }
 
 // The bar's last note, in its last beat.
@@ -145,16 +125,14 @@ fn ends_late(t: Steps, i: usize) -> bool
 }
 
 // Whether a note that may be a pickup is drawn as one.
-fn pickup_drawn(s: NoiseStream, p: BarPart, style: BassStyle, i: usize) -> ChanceDraw
+fn pickup_drawn(s: NoiseStream, p: BarPart, style: BassStyle, i: usize) -> Draw<bool>
     requires { i < 13 }
     ensures { result ≡ pickup_drawn_of s p style i }
 {
-    let steps = p.steps;
-    let odds = style.pickup_p;
-    if ends_late(steps, i) {
-        odds.draw(s)
+    if ends_late(p.steps, i) {
+        style.pickup_p.draw(s)
     } else {
-        ChanceDraw {
+        Draw {
             value: false,
             stream: s,
         }
@@ -162,7 +140,7 @@ fn pickup_drawn(s: NoiseStream, p: BarPart, style: BassStyle, i: usize) -> Chanc
 }
 
 // Note i of a bar. In the last bar a pickup is drawn and then not played.
-fn note_drawn(s: NoiseStream, on: f32, p: BarPart, style: BassStyle, i: usize) -> Strike
+fn note_drawn(s: NoiseStream, on: f32, p: BarPart, style: BassStyle, i: usize) -> Draw<Strike>
     requires playable { Playable p }
     requires i_lt_n { i < p.steps.n }
     ensures { result ≡ note_drawn_of s on p style i }
@@ -170,12 +148,11 @@ fn note_drawn(s: NoiseStream, on: f32, p: BarPart, style: BassStyle, i: usize) -
     if i == 0 {
         return root_note(s, on, p, style);
     }
-    let c = pickup_drawn(s, p, style, i);
-    let next = c.stream;
-    if c.value & (p.bar < 7) {
-        pickup_note(next, on, p)
+    let pickup = pickup_drawn(s, p, style, i);
+    if pickup.value & (p.bar < 7) {
+        pickup_note(pickup.stream, on, p)
     } else {
-        later_note(next, on, p, style)
+        later_note(pickup.stream, on, p, style)
     }
 }
 
@@ -220,28 +197,20 @@ pub(crate) fn played_note(
     style: BassStyle,
     beat_s: f32,
     i: usize,
-) -> PlayedNote
+) -> Draw<Note>
     requires playable { Playable p }
     requires i_lt_n { i < p.steps.n }
     ensures { result ≡ played_note_of s p style beat_s i }
 {
-    let steps = p.steps;
-    let on = onset(beat_s, p.bar, steps.at[i]);
-    let d = note_drawn(s, on, p, style, i);
+    let on = onset(beat_s, p.bar, p.steps.at[i]);
     let g = gap(p, i);
-    let dur = held(beat_s, g, d.at);
-    let note = Note {
+    note_drawn(s, on, p, style, i).map(|d| Note {
         bar: p.bar,
         role: NoteRole::Backing,
         spare: 0,
         at: d.at,
         midi: d.midi,
         vel: d.vel,
-        dur: dur,
-    };
-    let next = d.stream;
-    PlayedNote {
-        note: note,
-        stream: next,
-    }
+        dur: held(beat_s, g, d.at),
+    })
 }

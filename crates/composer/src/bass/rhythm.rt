@@ -3,34 +3,13 @@ ghost use Rattle.std.specs.Prelude.{cond, ◌≡◌, ◌<◌};
 ghost use Rattle.composer.specs.Bass.Rhythm.{first_beat_sum, root_step_of, bass_rhythm_of, bass_rhythms_of};
 
 use streams::draw::chance;
-use streams::stream::NoiseStream;
+use streams::stream::{Draw, NoiseStream};
 
 // The first n of `at`: the root's step, in the first beat, then the later ones that sound.
 #[derive(Clone, Copy)]
 pub struct Steps {
     pub at: [u8; 13],
     pub n: usize,
-}
-
-// The root's step, and the stream after its draws.
-#[derive(Clone, Copy)]
-pub struct RootDraw {
-    pub step: u8,
-    pub stream: NoiseStream,
-}
-
-// A bar's steps so far, and the stream after their draws.
-#[derive(Clone, Copy)]
-pub struct StepsDraw {
-    pub steps: Steps,
-    pub stream: NoiseStream,
-}
-
-// The rhythms of all bars, and the stream after their draws.
-#[derive(Clone, Copy)]
-pub struct Rhythms {
-    pub bars: [Steps; 8],
-    pub stream: NoiseStream,
 }
 
 // For each 16th from the downbeat, the chance that a note starts there.
@@ -47,33 +26,25 @@ fn first_beat_sum() -> f32
 }
 
 // The first step of the beat that its chance over those left takes; the last is drawn too, and taken anyway.
-fn root_step(s: NoiseStream) -> RootDraw
+fn root_step(s: NoiseStream) -> Draw<u8>
     ensures value { result ≡ root_step_of s }
-    ensures step_bound { result.step < 4 }
+    ensures step_bound { result.value < 4 }
 {
     let mut left = first_beat_sum();
     let mut stream = s;
-    let mut i: usize = 0;
-    while i < 3 {
-        let p = BASS_STEP_P[i];
+    for step in 0..3u8 {
+        let p = BASS_STEP_P[step as usize];
         let c = chance(stream, p / left);
-        let next = c.stream;
         if c.value {
-            return RootDraw {
-                step: i as u8,
-                stream: next,
+            return Draw {
+                value: step,
+                stream: c.stream,
             };
         }
-        left = left - p;
-        stream = next;
-        i += 1;
+        left -= p;
+        stream = c.stream;
     }
-    let c = chance(stream, BASS_STEP_P[3] / left);
-    let next = c.stream;
-    RootDraw {
-        step: 3,
-        stream: next,
-    }
+    chance(stream, BASS_STEP_P[3] / left).map(|_| 3)
 }
 
 // A step that sounds, else 0.
@@ -84,13 +55,13 @@ fn sounding(sounds: bool, step: u8) -> u8
 }
 
 // The root's step, then each of steps 4 to 15 by its chance.
-fn bass_rhythm(s: NoiseStream) -> StepsDraw
+fn bass_rhythm(s: NoiseStream) -> Draw<Steps>
     ensures { result ≡ bass_rhythm_of s }
 {
     let root = root_step(s);
     // Copied once for the twelve steps.
     let chances = BASS_STEP_P;
-    let mut at = [root.step, 0, 0, 0, 0, 0, 0, 0, 0, 0, 0, 0, 0];
+    let mut at = [root.value, 0, 0, 0, 0, 0, 0, 0, 0, 0, 0, 0, 0];
     let mut n: usize = 1;
     let mut stream = root.stream;
     for i in 0..12u8 {
@@ -101,15 +72,14 @@ fn bass_rhythm(s: NoiseStream) -> StepsDraw
         n += c.value as usize;
         stream = c.stream;
     }
-    let steps = Steps { at: at, n: n };
-    StepsDraw {
-        steps: steps,
-        stream: stream,
+    Draw {
+        value: Steps { at, n },
+        stream,
     }
 }
 
 // The rhythms of all eight bars, one after the other.
-pub(crate) fn bass_rhythms(s: NoiseStream) -> Rhythms
+pub(crate) fn bass_rhythms(s: NoiseStream) -> Draw<[Steps; 8]>
     ensures { result ≡ bass_rhythms_of s }
 {
     let z = Steps {
@@ -120,12 +90,11 @@ pub(crate) fn bass_rhythms(s: NoiseStream) -> Rhythms
     let mut stream = s;
     for b in 0..8usize {
         let d = bass_rhythm(stream);
-        let steps = d.steps;
-        bars[b] = steps;
+        bars[b] = d.value;
         stream = d.stream;
     }
-    Rhythms {
-        bars: bars,
-        stream: stream,
+    Draw {
+        value: bars,
+        stream,
     }
 }

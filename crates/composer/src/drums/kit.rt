@@ -7,7 +7,7 @@ use crate::note::{DrumKind, Hit};
 use crate::spread::{Jitter, Spread};
 use crate::timing::{held_at_zero, swing_delay};
 use streams::float::fract;
-use streams::stream::NoiseStream;
+use streams::stream::{Draw, NoiseStream};
 
 // One bar of a groove: its number in the loop, where it starts, how long its beats are, and the
 // wobble that all its hits share.
@@ -17,13 +17,6 @@ pub struct Bar {
     pub start: f32,
     pub beat_s: f32,
     pub wobble: f32,
-}
-
-// A hit, and the stream after its draws.
-#[derive(Clone, Copy)]
-pub struct Struck {
-    pub hit: Hit,
-    pub stream: NoiseStream,
 }
 
 const SWING_KICK: f32 = 0.53;
@@ -110,47 +103,35 @@ pub(crate) fn kick_of(g: Groove, k: u8) -> Kick
 }
 
 // One kick: its jitter is drawn, then its accent.
-pub(crate) fn kick_hit(s: NoiseStream, bar: Bar, drag_s: f32, k: Kick) -> Struck
+pub(crate) fn kick_hit(s: NoiseStream, bar: Bar, drag_s: f32, k: Kick) -> Draw<Hit>
     ensures { result ≡ kick_hit_of s bar drag_s k }
 {
     let beat = kick_beat(k, bar.number);
     let slot = kick_slot(bar, drag_s, beat);
     let j = KICK_JITTER.draw(s);
     let at = held_at_zero(slot + j.value);
-    let a = HIT_ACCENT.draw(j.stream);
-    let hit = Hit {
+    HIT_ACCENT.draw(j.stream).map(|accent| Hit {
         bar: bar.number,
         spare: 0,
-        at: at,
+        at,
         kind: DrumKind::Kick,
-        gain: k.gain * bar.wobble * a.value,
-    };
-    let next = a.stream;
-    Struck {
-        hit: hit,
-        stream: next,
-    }
+        gain: k.gain * bar.wobble * accent,
+    })
 }
 
 // One snare: its jitter is drawn, then its accent.
-pub(crate) fn snare_hit(s: NoiseStream, bar: Bar, beat: f32, gain: f32) -> Struck
+pub(crate) fn snare_hit(s: NoiseStream, bar: Bar, beat: f32, gain: f32) -> Draw<Hit>
     ensures { result ≡ snare_hit_of s bar beat gain }
 {
     let j = SNARE_JITTER.draw(s);
     let at = held_at_zero(bar.at(beat) + SNARE_DRAG_S + j.value);
-    let a = HIT_ACCENT.draw(j.stream);
-    let hit = Hit {
+    HIT_ACCENT.draw(j.stream).map(|accent| Hit {
         bar: bar.number,
         spare: 0,
-        at: at,
+        at,
         kind: DrumKind::Snare,
-        gain: gain * bar.wobble * a.value,
-    };
-    let next = a.stream;
-    Struck {
-        hit: hit,
-        stream: next,
-    }
+        gain: gain * bar.wobble * accent,
+    })
 }
 
 // Eighth e's slot: the off-eighths are swung.
@@ -176,26 +157,18 @@ fn hat_kind(open_hat: bool, bar: Bar, e: u8) -> DrumKind
 }
 
 // One hat: its jitter is drawn, then its velocity.
-pub(crate) fn hat_hit(s: NoiseStream, g: Groove, bar: Bar, e: u8) -> Struck
+pub(crate) fn hat_hit(s: NoiseStream, g: Groove, bar: Bar, e: u8) -> Draw<Hit>
     ensures { result ≡ hat_hit_of s g bar e }
 {
-    let hats = g.hats;
-    let slot = hat_slot(bar, hats.swing, e);
+    let slot = hat_slot(bar, g.hats.swing, e);
     let j = HAT_JITTER.draw(s);
     let at = held_at_zero(slot + j.value);
     let kind = hat_kind(g.open_hat, bar, e);
-    let velocity = hats.velocity;
-    let v = velocity.draw(j.stream);
-    let hit = Hit {
+    g.hats.velocity.draw(j.stream).map(|velocity| Hit {
         bar: bar.number,
         spare: 0,
-        at: at,
-        kind: kind,
-        gain: v.value * bar.wobble,
-    };
-    let next = v.stream;
-    Struck {
-        hit: hit,
-        stream: next,
-    }
+        at,
+        kind,
+        gain: velocity * bar.wobble,
+    })
 }

@@ -6,7 +6,7 @@ use crate::band::band;
 use crate::form::ends::Edge;
 use crate::form::plays::{BED, DRUMS_BASS, KEYS, KEYS_BASS, KEYS_DRUMS, Plays};
 use streams::draw::picked;
-use streams::stream::NoiseStream;
+use streams::stream::{Draw, NoiseStream};
 
 // How a song opens.
 #[derive(Clone, Copy)]
@@ -59,20 +59,6 @@ pub struct Decisions {
     pub dip: bool,
     pub closing: Closing,
     pub long_outro: bool,
-}
-
-// The decisions and the stream after their draws.
-#[derive(Clone, Copy)]
-pub struct Decided {
-    pub decisions: Decisions,
-    pub stream: NoiseStream,
-}
-
-// All 29 draws, and the stream after them.
-#[derive(Clone, Copy)]
-pub struct Units {
-    pub values: [f32; 29],
-    pub stream: NoiseStream,
 }
 
 // The intros and their weights.
@@ -214,7 +200,8 @@ fn decisions_by(u: [f32; 29]) -> Decisions
     }
 }
 
-fn draw_all(s: NoiseStream) -> Units
+// All 29 draws.
+fn draw_all(s: NoiseStream) -> Draw<[f32; 29]>
     ensures { result ≡ draw_all_of s }
 {
     let mut values = [0.0f32; 29];
@@ -224,22 +211,15 @@ fn draw_all(s: NoiseStream) -> Units
         values[i] = d.value;
         stream = d.stream;
     }
-    Units {
-        values: values,
-        stream: stream,
+    Draw {
+        value: values,
+        stream,
     }
 }
 
 // What the 29 draws of a stream decide.
-pub fn decide(s: NoiseStream) -> Decided
+pub fn decide(s: NoiseStream) -> Draw<Decisions>
     ensures { result ≡ decide_of s }
 {
-    let u = draw_all(s);
-    let values = u.values;
-    let decisions = decisions_by(values);
-    let next = u.stream;
-    Decided {
-        decisions: decisions,
-        stream: next,
-    }
+    draw_all(s).map(decisions_by)
 }

@@ -126,7 +126,5 @@ pub fn arrange(seed: u64) -> Form
     ensures { result ≡ arrange_of seed }
 {
     let s = Stage::Form.stream(seed);
-    let d = decide(s);
-    let decisions = d.decisions;
-    form_of(decisions)
+    form_of(decide(s).value)
 }

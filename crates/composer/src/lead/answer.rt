@@ -4,10 +4,9 @@ ghost use Rattle.composer.specs.Lead.Answer.{either_way_of, clamp_of, shift_of, 
 
 use crate::lead::beats::{Beats, remove, settle};
 use crate::lead::grid::grid_beat;
-use crate::lead::push::{BeatsDraw, push};
-use crate::spread::Drawn;
+use crate::lead::push::push;
 use streams::draw::{chance, coin, pick};
-use streams::stream::NoiseStream;
+use streams::stream::{Draw, NoiseStream};
 
 // The chance that a note shifts an eighth either way, and that one is dropped.
 const SHIFT_P: f32 = 0.2;
@@ -36,95 +35,65 @@ fn clamp(x: f32) -> f32
 }
 
 // A beat that may shift an eighth either way.
-fn shift(s: NoiseStream, beat: f32) -> Drawn
+fn shift(s: NoiseStream, beat: f32) -> Draw<f32>
     ensures { result ≡ shift_of s beat }
 {
-    let c = chance(s, SHIFT_P);
-    let sc = c.stream;
-    if c.value {
-        let up = coin(sc);
-        let next = up.stream;
-        let by = either_way(up.value);
-        let moved = clamp(beat + by);
-        return Drawn {
-            value: moved,
-            stream: next,
-        };
-    }
-    Drawn {
-        value: beat,
-        stream: sc,
+    let shifts = chance(s, SHIFT_P);
+    if shifts.value {
+        coin(shifts.stream).map(|up| clamp(beat + either_way(up)))
+    } else {
+        shifts.map(|_| beat)
     }
 }
 
 // Every beat of a bar, shifted and then pushed.
-fn varied(s: NoiseStream, b: Beats) -> BeatsDraw
+fn varied(s: NoiseStream, b: Beats) -> Draw<Beats>
     requires { b.n ≤ 7 }
     ensures value { result ≡ varied_of s b }
-    ensures n_bound { result.beats.n ≤ 7 }
+    ensures n_bound { result.value.n ≤ 7 }
 {
-    let n = b.n;
-    let from = b.at;
     let mut at = [0.0f32; 7];
     let mut stream = s;
-    for i in 0..n {
-        let m = shift(stream, from[i]);
-        let moved = m.stream;
-        let d = push(moved, m.value);
+    for i in 0..b.n {
+        let m = shift(stream, b.at[i]);
+        let d = push(m.stream, m.value);
         at[i] = d.value;
         stream = d.stream;
     }
-    let beats = Beats { at: at, n: n };
-    BeatsDraw {
-        beats: beats,
-        stream: stream,
+    Draw {
+        value: Beats { at, n: b.n },
+        stream,
     }
 }
 
 // A bar that is not empty may lose one beat.
-fn drop_one(d: BeatsDraw) -> BeatsDraw
-    requires { d.beats.n ≤ 7 }
+fn drop_one(d: Draw<Beats>) -> Draw<Beats>
+    requires { d.value.n ≤ 7 }
     ensures value { result ≡ drop_one_of d }
-    ensures n_bound { result.beats.n ≤ 7 }
+    ensures n_bound { result.value.n ≤ 7 }
 {
-    let beats = d.beats;
-    let n = beats.n;
-    if n == 0 {
+    let beats = d.value;
+    if beats.n == 0 {
         return d;
     }
-    let s = d.stream;
-    let c = chance(s, DROP_P);
-    let sc = c.stream;
-    if c.value {
-        let k = pick(sc, n as u8);
-        let next = k.stream;
-        let left = remove(beats, k.value as usize);
-        return BeatsDraw {
-            beats: left,
-            stream: next,
-        };
-    }
-    BeatsDraw {
-        beats: beats,
-        stream: sc,
+    let drops = chance(d.stream, DROP_P);
+    if drops.value {
+        pick(drops.stream, beats.n as u8).map(|k| remove(beats, k as usize))
+    } else {
+        drops.map(|_| beats)
     }
 }
 
 // A statement bar, varied.
-pub(crate) fn answer_bar(s: NoiseStream, b: Beats) -> BeatsDraw
+pub(crate) fn answer_bar(s: NoiseStream, b: Beats) -> Draw<Beats>
     requires { b.n ≤ 7 }
     ensures value { result ≡ answer_bar_of s b }
-    ensures n_bound { result.beats.n ≤ 7 }
+    ensures n_bound { result.value.n ≤ 7 }
 {
-    let d = varied(s, b);
-    let left = drop_one(d);
-    let beats = left.beats;
-    let next = left.stream;
-    let n = beats.n;
-    let mut at = beats.at;
-    let done = settle(&mut at, n);
-    BeatsDraw {
-        beats: done,
-        stream: next,
+    let left = drop_one(varied(s, b));
+    let mut at = left.value.at;
+    Draw {
+        value: settle(&mut at, left.value.n),
+        stream: left.stream,
     }
 }

@@ -75,22 +75,14 @@ fn step(pool: &[bool], g: Ground, l: Line, p: Place, first: u8) -> LeadStep
     requires fit { Fit pool.now g.lo g.hi l first }
     ensures { result ≡ step_of pool.now g l p first }
 {
-    let c = role_of(l, p);
-    let role = c.role;
-    let sc = c.stream;
-    let q = pitch_of(role, sc, pool, g, l, p, first);
-    let note = q.note;
-    let sq = q.stream;
-    let spread = g.velocity;
-    let d = spread.draw(sq);
-    let sd = d.stream;
-    let vel = velocity(role, d.value);
-    let line = carried(l, p.bar, note, sd);
+    let role = role_of(l, p);
+    let note = pitch_of(role.value, role.stream, pool, g, l, p, first);
+    let vel = g.velocity.draw(note.stream);
     LeadStep {
-        note: note,
-        role: role,
-        vel: vel,
-        line: line,
+        note: note.value,
+        role: role.value,
+        vel: velocity(role.value, vel.value),
+        line: carried(l, p.bar, note.value, vel.stream),
     }
 }
 

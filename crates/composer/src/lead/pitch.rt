@@ -11,7 +11,7 @@ use crate::lead::role::Role;
 use crate::lead::scale::scale_step;
 use crate::lead::tones::{Tones, distance, near};
 use streams::draw::{chance, coin, pick};
-use streams::stream::NoiseStream;
+use streams::stream::{Draw, NoiseStream};
 
 // The peak's least lift over the last note, in semitones, and how many lifts there are.
 const PEAK_LIFT: u8 = 3;
@@ -25,13 +25,6 @@ const DRIFTS: u8 = 9;
 
 // The chance that a passing tone skips a degree.
 const SKIP_P: f32 = 0.3;
-
-// A pitch, and the stream after what it drew.
-#[derive(Clone, Copy)]
-pub struct PitchDraw {
-    pub note: u8,
-    pub stream: NoiseStream,
-}
 
 // x, or hi where x is above it.
 fn lower(x: u8, hi: u8) -> u8
@@ -78,25 +71,15 @@ fn close_note(g: Ground, first: u8) -> u8
     requires { (0 < g.tones.n) × (g.tones.n ≤ 20) }
     ensures { result ≡ close_note_of g first }
 {
-    let t = g.tones;
-    near(t, first)
+    near(g.tones, first)
 }
 
 // A lift onto a strong tone.
-fn peak_note(s: NoiseStream, g: Ground, prev: u8) -> PitchDraw
+fn peak_note(s: NoiseStream, g: Ground, prev: u8) -> Draw<u8>
     requires { (prev < 200) × (0 < g.strong.n) × (g.strong.n ≤ 20) }
     ensures { result ≡ peak_note_of s g prev }
 {
-    let p = pick(s, PEAK_LIFTS);
-    let lift = p.value;
-    let next = p.stream;
-    let t = g.strong;
-    let target = lower(prev + PEAK_LIFT + lift, g.hi);
-    let n = near(t, target);
-    PitchDraw {
-        note: n,
-        stream: next,
-    }
+    pick(s, PEAK_LIFTS).map(|lift| near(g.strong, lower(prev + PEAK_LIFT + lift, g.hi)))
 }
 
 // A step against the leap from `from` to prev.
@@ -108,38 +91,24 @@ fn resolve_note(pool: &[bool], g: Ground, from: u8, prev: u8) -> u8
 }
 
 // A drift onto a tone, at most a fifth away.
-fn chord_note(s: NoiseStream, g: Ground, strong: bool, prev: u8) -> PitchDraw
+fn chord_note(s: NoiseStream, g: Ground, strong: bool, prev: u8) -> Draw<u8>
     requires { (4 ≤ prev) × (prev < 200) × (g.lo ≤ g.hi) × (0 < (tones_for_of g strong).n) × ((tones_for_of g strong).n ≤ 20) }
     ensures { result ≡ chord_note_of s g strong prev }
 {
-    let p = pick(s, DRIFTS);
-    let drift = p.value;
-    let next = p.stream;
     let t = tones_for(g, strong);
-    let target = held(prev + drift - DRIFT, g.lo, g.hi);
-    let n = near(t, target);
-    let m = bounded(t, n, prev);
-    PitchDraw {
-        note: m,
-        stream: next,
-    }
+    pick(s, DRIFTS).map(|drift| {
+        let target = held(prev + drift - DRIFT, g.lo, g.hi);
+        bounded(t, near(t, target), prev)
+    })
 }
 
 // A coin for the way, then the chance to skip.
-fn passing_note(s: NoiseStream, pool: &[bool], g: Ground, prev: u8) -> PitchDraw
+fn passing_note(s: NoiseStream, pool: &[bool], g: Ground, prev: u8) -> Draw<u8>
     requires { (g.lo ≤ prev) × (prev ≤ g.hi) × (40 ≤ g.lo) × (g.hi < g.lo + 20) × (g.hi < 120) }
     ensures { result ≡ passing_note_of s pool.now g prev }
 {
-    let c = coin(s);
-    let sc = c.stream;
-    let k = chance(sc, SKIP_P);
-    let sk = k.stream;
-    let degrees = steps(k.value);
-    let n = scale_step(pool, g.lo, g.hi, prev, c.value, degrees);
-    PitchDraw {
-        note: n,
-        stream: sk,
-    }
+    let up = coin(s);
+    chance(up.stream, SKIP_P).map(|skip| scale_step(pool, g.lo, g.hi, prev, up.value, steps(skip)))
 }
 
 // The pitch of the note at p; `first` is the melody's first note.
@@ -151,30 +120,26 @@ pub(crate) fn pitch_of(
     l: Line,
     p: Place,
     first: u8,
-) -> PitchDraw
+) -> Draw<u8>
     requires sound { Sound pool.now g }
     requires fit { Fit pool.now g.lo g.hi l first }
     requires quotable { Quotable role p.i l.heads }
     ensures { result ≡ pitch_of role s pool.now g l p first }
 {
     match role {
-        Role::Quote => {
-            let h = l.head;
-            let i = p.i;
-            PitchDraw {
-                note: h[i],
-                stream: s,
-            }
-        }
-        Role::Close => {
-            let n = close_note(g, first);
-            PitchDraw { note: n, stream: s }
-        }
+        Role::Quote => Draw {
+            value: l.head[p.i],
+            stream: s,
+        },
+        Role::Close => Draw {
+            value: close_note(g, first),
+            stream: s,
+        },
         Role::Peak => peak_note(s, g, l.prev),
-        Role::Resolve => {
-            let n = resolve_note(pool, g, l.from, l.prev);
-            PitchDraw { note: n, stream: s }
-        }
+        Role::Resolve => Draw {
+            value: resolve_note(pool, g, l.from, l.prev),
+            stream: s,
+        },
         Role::ChordTone => chord_note(s, g, p.strong, l.prev),
         Role::Passing => passing_note(s, pool, g, l.prev),
     }

@@ -7,7 +7,7 @@ use crate::lead::melody::{LeadNote, Sung};
 use crate::note::{NO_NOTE, Note};
 use crate::spread::Spread;
 use crate::timing::bar_start;
-use streams::stream::NoiseStream;
+use streams::stream::{Draw, NoiseStream};
 
 // How far behind the grid a note sounds, in seconds.
 const LEAD_LAG: Spread = Spread {
@@ -21,13 +21,6 @@ const LEAD_ACCENT: Spread = Spread {
     span: 0.16,
 };
 
-// A note as played, and the stream after its draws.
-#[derive(Clone, Copy)]
-pub struct PlayedNote {
-    pub note: Note,
-    pub stream: NoiseStream,
-}
-
 // A note's time on the grid, in seconds.
 fn on_grid(x: LeadNote, beat_s: f32) -> f32
     ensures { result ≡ on_grid_of x beat_s }
@@ -36,30 +29,19 @@ fn on_grid(x: LeadNote, beat_s: f32) -> f32
 }
 
 // Its lag is drawn, then its accent.
-fn play(x: LeadNote, beat_s: f32, dur: f32, s: NoiseStream) -> PlayedNote
+fn play(x: LeadNote, beat_s: f32, dur: f32, s: NoiseStream) -> Draw<Note>
     ensures { result ≡ played_note_of x beat_s dur s }
 {
-    let role = x.role;
-    let noted = role.noted();
-    let lag = LEAD_LAG;
-    let d = lag.after(on_grid(x, beat_s), s);
-    let sd = d.stream;
-    let accent = LEAD_ACCENT;
-    let e = accent.draw(sd);
-    let se = e.stream;
-    let note = Note {
+    let at = LEAD_LAG.after(on_grid(x, beat_s), s);
+    LEAD_ACCENT.draw(at.stream).map(|accent| Note {
         bar: x.bar,
-        role: noted,
+        role: x.role.noted(),
         spare: 0,
-        at: d.value,
+        at: at.value,
         midi: x.note,
-        vel: x.vel * e.value,
-        dur: dur,
-    };
-    PlayedNote {
-        note: note,
-        stream: se,
-    }
+        vel: x.vel * accent,
+        dur,
+    })
 }
 
 // All notes of the melody.
@@ -67,20 +49,16 @@ pub(crate) fn played(m: Sung, beat_s: f32, dur: f32) -> LeadLane
     requires { m.count ≤ 56 }
     ensures { result ≡ played_of m beat_s dur }
 {
-    let line = m.line;
-    let n = m.count;
     let mut notes = [NO_NOTE; 56];
-    let mut stream = line.stream;
-    for i in 0..n {
-        let x = m.notes[i];
-        let p = play(x, beat_s, dur, stream);
-        let note = p.note;
-        notes[i] = note;
+    let mut stream = m.line.stream;
+    for i in 0..m.count {
+        let p = play(m.notes[i], beat_s, dur, stream);
+        notes[i] = p.value;
         stream = p.stream;
     }
     LeadLane {
-        notes: notes,
-        count: n,
-        stream: stream,
+        notes,
+        count: m.count,
+        stream,
     }
 }

@@ -7,14 +7,7 @@ use crate::lead::answer::answer_bar;
 use crate::lead::beats::{Beats, NO_BEATS};
 use crate::lead::statement::statement_bar;
 use crate::style::LeadStyle;
-use streams::stream::NoiseStream;
-
-// The statement's four bars, then the answer's, and the stream after their draws.
-#[derive(Clone, Copy)]
-pub struct Rhythm {
-    pub bars: [Beats; 8],
-    pub stream: NoiseStream,
-}
+use streams::stream::{Draw, NoiseStream};
 
 const STATEMENT_BARS: usize = 4;
 
@@ -40,17 +33,16 @@ fn spared(few: bool, spare: Beats, drawn: Beats) -> Beats
     if few { spare } else { drawn }
 }
 
-// Each bar's beats.
-pub(crate) fn rhythm_of(s: NoiseStream, style: LeadStyle) -> Rhythm
+// Each bar's beats: the statement's four bars, then the answer's.
+pub(crate) fn rhythm_of(s: NoiseStream, style: LeadStyle) -> Draw<[Beats; 8]>
     ensures value { result ≡ rhythm_of s style }
-    ensures by_index { (k : ℕ) → (get_or result.bars k past_beats).n ≤ 7 }
+    ensures by_index { (k : ℕ) → (get_or result.value k past_beats).n ≤ 7 }
 {
     let mut bars = [NO_BEATS; 8];
     let mut stream = s;
     for k in 0..STATEMENT_BARS {
         let d = statement_bar(stream, style);
-        let beats = d.beats;
-        bars[k] = beats;
+        bars[k] = d.value;
         stream = d.stream;
     }
     let few = bars[0].n + bars[1].n + bars[2].n + bars[3].n < FALLBACK_NOTES;
@@ -59,14 +51,12 @@ pub(crate) fn rhythm_of(s: NoiseStream, style: LeadStyle) -> Rhythm
     bars[0] = first;
     bars[2] = third;
     for k in 0..STATEMENT_BARS {
-        let said = bars[k];
-        let d = answer_bar(stream, said);
-        let beats = d.beats;
-        bars[STATEMENT_BARS + k] = beats;
+        let d = answer_bar(stream, bars[k]);
+        bars[STATEMENT_BARS + k] = d.value;
         stream = d.stream;
     }
-    Rhythm {
-        bars: bars,
-        stream: stream,
+    Draw {
+        value: bars,
+        stream,
     }
 }

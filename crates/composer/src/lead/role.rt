@@ -6,7 +6,7 @@ use crate::lead::line::{Line, Place};
 use crate::lead::tones::distance;
 use crate::note::NoteRole;
 use streams::draw::chance;
-use streams::stream::NoiseStream;
+use streams::stream::{Draw, NoiseStream};
 
 // The answer's first bar, which quotes the statement.
 const QUOTE_BAR: u8 = 4;
@@ -51,13 +51,6 @@ impl Role {
     }
 }
 
-// A role, and the stream after what its choice drew.
-#[derive(Clone, Copy)]
-pub struct RoleDraw {
-    pub role: Role,
-    pub stream: NoiseStream,
-}
-
 // Whether the note quotes one of the statement's first.
 fn quotes(p: Place, heads: usize) -> bool
     ensures { result ≡ quotes_of p heads }
@@ -80,30 +73,24 @@ fn leapt(from: u8, prev: u8) -> bool
 }
 
 // A role beside the stream as it is then.
-fn chosen(role: Role, s: NoiseStream) -> RoleDraw
+fn chosen(role: Role, s: NoiseStream) -> Draw<Role>
     ensures { result ≡ chosen_of role s }
 {
-    RoleDraw {
-        role: role,
+    Draw {
+        value: role,
         stream: s,
     }
 }
 
 // A chord tone or a passing one, by a draw.
-fn chance_role(s: NoiseStream) -> RoleDraw
+fn chance_role(s: NoiseStream) -> Draw<Role>
     ensures { result ≡ chance_role_of s }
 {
-    let c = chance(s, CHORD_TONE_P);
-    let next = c.stream;
-    if c.value {
-        chosen(Role::ChordTone, next)
-    } else {
-        chosen(Role::Passing, next)
-    }
+    chance(s, CHORD_TONE_P).map(|tone| if tone { Role::ChordTone } else { Role::Passing })
 }
 
 // The role of the note at p. Only where no earlier role applies and the beat is weak is it drawn.
-pub(crate) fn role_of(l: Line, p: Place) -> RoleDraw
+pub(crate) fn role_of(l: Line, p: Place) -> Draw<Role>
     ensures { result ≡ role_of l p }
 {
     let s = l.stream;

@@ -2,12 +2,12 @@
 ghost use Rattle.std.specs.Prelude.{◌≡◌, cond, ◌≤◌};
 ghost use Rattle.composer.specs.Lead.Statement.{notes_of, statement_bar_of};
 
-use crate::lead::beats::{NO_BEATS, settle};
+use crate::lead::beats::{Beats, NO_BEATS, settle};
 use crate::lead::grid::grid_beat;
-use crate::lead::push::{BeatsDraw, push};
+use crate::lead::push::push;
 use crate::style::LeadStyle;
 use streams::draw::chance;
-use streams::stream::NoiseStream;
+use streams::stream::{Draw, NoiseStream};
 
 // How many notes a slot has.
 fn notes(sounds: bool) -> usize
@@ -37,25 +37,18 @@ fn after(sounds: bool, pushed: NoiseStream, before: NoiseStream) -> NoiseStream
 }
 
 // A bar of the statement: all slots are drawn, then the pushes of those that sound.
-pub(crate) fn statement_bar(s: NoiseStream, style: LeadStyle) -> BeatsDraw
+pub(crate) fn statement_bar(s: NoiseStream, style: LeadStyle) -> Draw<Beats>
     ensures value { result ≡ statement_bar_of s style }
-    ensures n_bound { result.beats.n ≤ 7 }
+    ensures n_bound { result.value.n ≤ 7 }
 {
-    let odds = style.rest_p;
-    let p = style.note_p;
-    let r = odds.draw(s);
-    let sr = r.stream;
-    if r.value {
-        let z = NO_BEATS;
-        return BeatsDraw {
-            beats: z,
-            stream: sr,
-        };
+    let rests = style.rest_p.draw(s);
+    if rests.value {
+        return rests.map(|_| NO_BEATS);
     }
     let mut sounds = [false; 7];
-    let mut stream = sr;
+    let mut stream = rests.stream;
     for i in 0..7usize {
-        let c = chance(stream, p);
+        let c = chance(stream, style.note_p);
         sounds[i] = c.value;
         stream = c.stream;
     }
@@ -64,15 +57,13 @@ pub(crate) fn statement_bar(s: NoiseStream, style: LeadStyle) -> BeatsDraw
     for i in 0..7u8 {
         // Each is written, and the next over it unless it sounds.
         let d = push(stream, grid_beat(i));
-        let next = d.stream;
         let heard = sounds[i as usize];
         at[n] = d.value;
         n += notes(heard);
-        stream = after(heard, next, stream);
+        stream = after(heard, d.stream, stream);
     }
-    let done = settle(&mut at, n);
-    BeatsDraw {
-        beats: done,
-        stream: stream,
+    Draw {
+        value: settle(&mut at, n),
+        stream,
     }
 }

@@ -16,13 +16,10 @@ pub loop-i-init : goal.loop-i-init
 unfolding bar_played part_of
 loop-i-init c =
     let l = c.loop-b in
-    let drawn = c.bass_rhythms-r.result in
-    let asks = turn_asks c.args.h c.requires drawn.bars (drawn_rising drawn c.args.s c.bass_rhythms-r.ensures) c.bass_style-knobs.result c.args.beat_s (no_bass drawn.stream) l.b (omega arith) refl in
+    let drawn = c.bass_rhythms-rhythms.result in
+    let asks = turn_asks c.args.h c.requires drawn.value (drawn_rising drawn c.args.s c.bass_rhythms-rhythms.ensures) c.bass_style-knobs.result c.args.beat_s (no_bass drawn.stream) l.b (omega arith) refl in
     let played = ap (λ (x : BassLane). x.count) l.invariant.1 in
-    (omega arith, refl, rw (c.root_class-next_pc.ensures, c.root_class-root_pc.ensures) asks.0, omega (arith, asks.1, played), omega arith, refl)
-
-pub played_note-d-requires : goal.played_note-d-requires
-played_note-d-requires c = let l = c.loop-i in record { playable = l.invariant.2; i_lt_n = omega arith }
+    (omega arith, refl, rw (c.root_class-in-loop-b.ensures, c.root_class.ensures) asks.0, omega (arith, asks.1, played), omega arith, refl)
 
 pub loop-i-preserved : goal.loop-i-preserved
 loop-i-preserved c =
@@ -34,12 +31,12 @@ unfolding part_of
 loop-b-preserved c =
     let i = c.loop-i in
     let l = c.loop-b in
-    let drawn = c.bass_rhythms-r.result in
-    (omega arith, bars_on c.args.h.bars drawn.bars c.bass_style-knobs.result c.args.beat_s (no_bass drawn.stream) l.b _ l.invariant.1 i.i (omega (arith, i.invariant.1)) _ (rw (c.root_class-next_pc.ensures, c.root_class-root_pc.ensures) at i.invariant.5))
+    let drawn = c.bass_rhythms-rhythms.result in
+    (omega arith, bars_on c.args.h.bars drawn.value c.bass_style-knobs.result c.args.beat_s (no_bass drawn.stream) l.b _ l.invariant.1 i.i (omega (arith, i.invariant.1)) _ (rw (c.root_class-in-loop-b.ensures, c.root_class.ensures) at i.invariant.5))
 
 pub returns : goal.returns
 unfolding bass_of
 returns c =
     let l = c.loop-b in
     let e : l.b ≡ 8 = omega arith in
-    rw (← c.bass_rhythms-r.ensures, ← c.bass_style-knobs.ensures, ← e) (sym l.invariant.1)
+    rw (← c.bass_rhythms-rhythms.ensures, ← c.bass_style-knobs.ensures, ← e) (sym l.invariant.1)

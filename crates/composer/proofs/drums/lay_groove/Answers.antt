@@ -22,21 +22,6 @@ loop-k-init c =
     let room : l.count + 13 ≤ 98 = omega (arith, ap (λ (m : DrumLane). m.count) l.invariant.1, bars_most (no_hits c.args.s) c.args.g c.args.beat_s c.requires l.number) in
     (omega arith, few, room, omega arith, refl)
 
-pub offset_bounds-hits-count : goal.offset_bounds-hits-count
-offset_bounds-hits-count c = omega arith
-
-pub bounds-hits-count : goal.bounds-hits-count
-bounds-hits-count c = omega arith
-
-pub overflow_add-count : goal.overflow_add-count
-overflow_add-count c = omega arith
-
-pub overflow_step-k : goal.overflow_step-k
-overflow_step-k c = omega arith
-
-pub loop-k-smaller : goal.loop-k-smaller
-loop-k-smaller c = omega arith
-
 pub loop-k-preserved : goal.loop-k-preserved
 unfolding kicks_to push_kick_of
 loop-k-preserved c =
@@ -46,27 +31,6 @@ loop-k-preserved c =
 pub loop-i-init : goal.loop-i-init
 unfolding snares_to
 loop-i-init c = (omega arith, omega arith, omega arith, omega arith, refl)
-
-pub offset_bounds-g-i : goal.offset_bounds-g-i
-offset_bounds-g-i c = omega arith
-
-pub bounds-g-i : goal.bounds-g-i
-bounds-g-i c = omega arith
-
-pub offset_bounds-hits-count-in-loop-i : goal.offset_bounds-hits-count-in-loop-i
-offset_bounds-hits-count-in-loop-i c = omega arith
-
-pub bounds-hits-count-in-loop-i : goal.bounds-hits-count-in-loop-i
-bounds-hits-count-in-loop-i c = omega arith
-
-pub overflow_add-count-in-loop-i : goal.overflow_add-count-in-loop-i
-overflow_add-count-in-loop-i c = omega arith
-
-pub overflow_step-i : goal.overflow_step-i
-overflow_step-i c = omega arith
-
-pub loop-i-smaller : goal.loop-i-smaller
-loop-i-smaller c = omega arith
 
 pub loop-i-preserved : goal.loop-i-preserved
 unfolding snares_to push_snare_of
@@ -78,23 +42,11 @@ pub loop-e-init : goal.loop-e-init
 unfolding hats_to
 loop-e-init c = (omega arith, omega arith, omega arith, refl)
 
-pub overflow_step-e : goal.overflow_step-e
-overflow_step-e c = omega arith
-
-pub loop-e-smaller-then-out_of_play : goal.loop-e-smaller-then-out_of_play
-loop-e-smaller-then-out_of_play c = omega arith
-
 pub loop-e-preserved-then-out_of_play : goal.loop-e-preserved-then-out_of_play
 unfolding hats_to lay_hat_of
 loop-e-preserved-then-out_of_play c =
     let l = c.loop-e in
     (omega arith, omega arith, omega arith, rw (add-one l.e, ← l.invariant.3, c.if-out_of_play.true))
-
-pub overflow_step-e-then-skip : goal.overflow_step-e-then-skip
-overflow_step-e-then-skip c = omega arith
-
-pub loop-e-smaller-then-skip : goal.loop-e-smaller-then-skip
-loop-e-smaller-then-skip c = omega arith
 
 pub loop-e-preserved-then-skip : goal.loop-e-preserved-then-skip
 unfolding hats_to lay_hat_of
@@ -103,33 +55,12 @@ loop-e-preserved-then-skip c =
     let e = (rw c.chance-skip.ensures at c.if-skip.true) in
     (omega arith, omega arith, omega arith, rw (add-one l.e, ← l.invariant.3, c.if-out_of_play.false, e, c.chance-skip.ensures))
 
-pub offset_bounds-hits-count-in-loop-e : goal.offset_bounds-hits-count-in-loop-e
-offset_bounds-hits-count-in-loop-e c = omega arith
-
-pub bounds-hits-count-in-loop-e : goal.bounds-hits-count-in-loop-e
-bounds-hits-count-in-loop-e c = omega arith
-
-pub overflow_add-count-in-loop-e : goal.overflow_add-count-in-loop-e
-overflow_add-count-in-loop-e c = omega arith
-
-pub overflow_step-e-in-loop-e : goal.overflow_step-e-in-loop-e
-overflow_step-e-in-loop-e c = omega arith
-
-pub loop-e-smaller : goal.loop-e-smaller
-loop-e-smaller c = omega arith
-
 pub loop-e-preserved : goal.loop-e-preserved
 unfolding hats_to lay_hat_of push_hat_of
 loop-e-preserved c =
     let l = c.loop-e in
     let e = (rw c.chance-skip.ensures at c.if-skip.false) in
     (omega arith, omega arith, omega arith, rw (add-one l.e, ← l.invariant.3, c.if-out_of_play.false, e, c.hat_hit-d.ensures, c.chance-skip.ensures))
-
-pub overflow_step-number : goal.overflow_step-number
-overflow_step-number c = omega arith
-
-pub loop-number-smaller : goal.loop-number-smaller
-loop-number-smaller c = omega arith
 
 pub loop-number-preserved : goal.loop-number-preserved
 unfolding bars_to

@@ -1,7 +1,7 @@
 -- Each loop lays what its definition lays, and a bar adds at most 13 hits. Assumes nothing.
 use mathlib.Core.Path.{◌≡◌}
 use mathlib.Core.List.{List}
-use Prim.Native.Nat.{ℕ, ◌+◌, ◌-◌, ◌≤◌}
+use Prim.Native.Nat.{ℕ, ◌+◌, ◌≤◌}
 use Rattle.streams.specs.declared.stream.NoiseStream.{NoiseStream}
 use Rattle.composer.specs.Drums.{bars_to}
 use Rattle.composer.specs.Drums.Kit.{snares_to, hats_to}
@@ -18,26 +18,14 @@ abbrev pub invariant-loop-k : goal.invariant-loop-k
 invariant-loop-k l =
     (l.k ≤ l.kicks) × (l.kicks ≤ 3) × (l.initial.count + 13 ≤ 98) × (l.count ≡ l.initial.count + l.k) × (lane l.hits l.count l.stream ≡ kicks_to (lane l.initial.hits l.initial.count l.initial.stream) l.g l.bar l.k)
 
-abbrev pub decreases-loop-k : goal.decreases-loop-k
-decreases-loop-k l = l.kicks - l.k
-
 abbrev pub invariant-loop-i : goal.invariant-loop-i
 invariant-loop-i l =
     (l.i ≤ l.i-end) × (l.i-end ≤ 2) × (l.initial.count + 10 ≤ 98) × (l.count ≡ l.initial.count + l.i) × (lane l.hits l.count l.stream ≡ snares_to (lane l.initial.hits l.initial.count l.initial.stream) l.g l.bar l.i)
-
-abbrev pub decreases-loop-i : goal.decreases-loop-i
-decreases-loop-i l = l.i-end - l.i
 
 abbrev pub invariant-loop-e : goal.invariant-loop-e
 invariant-loop-e l =
     (l.e ≤ 8) × (l.initial.count + 8 ≤ 98) × (l.count ≤ l.initial.count + l.e) × (lane l.hits l.count l.stream ≡ hats_to (lane l.initial.hits l.initial.count l.initial.stream) l.g l.bar l.e)
 
-abbrev pub decreases-loop-e : goal.decreases-loop-e
-decreases-loop-e l = 8 - l.e
-
 abbrev pub invariant-loop-number : goal.invariant-loop-number
 invariant-loop-number l =
     (l.number ≤ 8) × (lane l.hits l.count l.stream ≡ bars_to (lane l.initial.hits l.initial.count l.initial.stream) l.g l.beat_s l.number)
-
-abbrev pub decreases-loop-number : goal.decreases-loop-number
-decreases-loop-number l = 8 - l.number

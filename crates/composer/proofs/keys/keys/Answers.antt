@@ -1,7 +1,6 @@
 -- After b bars the lane is the definition's, with at most 16 notes for each; after e eighths of a bar, with at most two for each. Assumes nothing.
 use mathlib.Core.Bool.{true}
 use mathlib.Core.Path.{◌≡◌, refl}
-use Prim.Native.Nat.{◌+◌, ◌≤◌}
 use native.Mathlib.Omega.{arith}
 use native.Mathlib.Numerals.{add-one}
 use lib.ListN.{get_or}
@@ -25,16 +24,9 @@ chord_at t = get_or t.args.h.bars t.loop-b.b past_chord
 abbrev lane_at : Turn → KeysLane
 lane_at t = lane_of t.loop-e.notes t.loop-e.count t.loop-e.stream
 
--- two more notes fit
-room : (t : Turn) → t.loop-e.count + 2 ≤ 128
-room t = omega arith
-
 pub loop-b-init : goal.loop-b-init
 unfolding bars_to
 loop-b-init c = (omega arith, omega arith, refl)
-
-pub offset_bounds-h-b : goal.offset_bounds-h-b
-offset_bounds-h-b c = omega arith
 
 pub shell_of-shell-requires : goal.shell_of-shell-requires
 shell_of-shell-requires c =
@@ -43,12 +35,6 @@ shell_of-shell-requires c =
 pub loop-e-init : goal.loop-e-init
 unfolding bar_to
 loop-e-init c = (omega arith, omega arith, refl)
-
-pub overflow_step-e : goal.overflow_step-e
-overflow_step-e c = omega arith
-
-pub loop-e-smaller-then-not-struck : goal.loop-e-smaller-then-not-struck
-loop-e-smaller-then-not-struck c = omega arith
 
 pub loop-e-preserved-then-not-struck : goal.loop-e-preserved-then-not-struck
 unfolding bar_to
@@ -60,39 +46,6 @@ pub dyad_at-dyad-requires : goal.dyad_at-dyad-requires
 dyad_at-dyad-requires c =
     rw c.shell_of-shell.ensures (tonal_seventh_le c.args.h c.requires c.loop-b.b (omega arith))
 
-pub offset_bounds-notes-count : goal.offset_bounds-notes-count
-offset_bounds-notes-count c = omega (arith, room (goal.at.offset_bounds-notes-count c).In-loop-e)
-
-pub bounds-notes-count : goal.bounds-notes-count
-bounds-notes-count c = omega (arith, room (goal.at.bounds-notes-count c).In-loop-e)
-
-pub overflow_add-notes : goal.overflow_add-notes
-overflow_add-notes c = omega (arith, room (goal.at.overflow_add-notes c).In-loop-e)
-
-pub offset_bounds-notes-count-in-Shell : goal.offset_bounds-notes-count-in-Shell
-offset_bounds-notes-count-in-Shell c = omega (arith, room (goal.at.offset_bounds-notes-count-in-Shell c).In-loop-e)
-
-pub bounds-notes-count-in-Shell : goal.bounds-notes-count-in-Shell
-bounds-notes-count-in-Shell c = omega (arith, room (goal.at.bounds-notes-count-in-Shell c).In-loop-e)
-
-pub overflow_add-count : goal.overflow_add-count
-overflow_add-count c = omega (arith, room (goal.at.overflow_add-count c).In-loop-e)
-
-pub offset_bounds-notes-count-in-Single : goal.offset_bounds-notes-count-in-Single
-offset_bounds-notes-count-in-Single c = omega (arith, room (goal.at.offset_bounds-notes-count-in-Single c).In-loop-e)
-
-pub bounds-notes-count-in-Single : goal.bounds-notes-count-in-Single
-bounds-notes-count-in-Single c = omega (arith, room (goal.at.bounds-notes-count-in-Single c).In-loop-e)
-
-pub overflow_add-count-in-Single : goal.overflow_add-count-in-Single
-overflow_add-count-in-Single c = omega (arith, room (goal.at.overflow_add-count-in-Single c).In-loop-e)
-
-pub overflow_step-e-in-loop-e : goal.overflow_step-e-in-loop-e
-overflow_step-e-in-loop-e c = omega arith
-
-pub loop-e-smaller : goal.loop-e-smaller
-loop-e-smaller c = omega arith
-
 pub loop-e-preserved : goal.loop-e-preserved
 unfolding bar_to
 loop-e-preserved c =
@@ -102,7 +55,7 @@ loop-e-preserved c =
     let strikes : c.chance-struck.result.value ≡ true = not-false _ c.if-not-struck.false in
     let e = c.loop-e.e in
     let few = c.loop-e.invariant.1 in
-    elim c.match-comp.branch [
+    elim c.match-k.branch [
       | in-Shell w ↦ (
         omega (arith, c.loop-e-test.true),
         omega (arith, w.count-is, few),
@@ -116,12 +69,6 @@ loop-e-preserved c =
             (eighth_single (lane_at (goal.at.loop-e-preserved c).In-loop-e) (chord_at (goal.at.loop-e-preserved c).In-loop-e) k p c.loop-b.b e beat_s c.chance-struck.result c.chance-struck.ensures strikes c.draw-lag.result c.draw-lag.ensures c.grid_at.result c.grid_at.ensures w.tone_at-tone.result w.tone_at-tone.ensures w.in-Single.is),
       )
     ]
-
-pub overflow_step-b : goal.overflow_step-b
-overflow_step-b c = omega arith
-
-pub loop-b-smaller : goal.loop-b-smaller
-loop-b-smaller c = omega arith
 
 pub loop-b-preserved : goal.loop-b-preserved
 unfolding bars_to bar_of

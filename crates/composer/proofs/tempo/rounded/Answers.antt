@@ -1,14 +1,7 @@
 -- The test is the definition's, on the truncated value. Assumes nothing.
-use mathlib.Core.Path.{sym, subst}
-use Prim.Native.Nat.{ℕ, ◌^◌, ◌≤◌}
-use Rattle.laws.proofs.Exact.{exact}
+use mathlib.Core.Path.{sym}
 use Rattle.laws.proofs.Rounding.{round_is}
 use Rattle.composer.proofs.tempo.rounded.Goals as goal
-
-pub int_to_float-d : goal.int_to_float-d
-int_to_float-d c =
-    let t = c.truncated-t in
-    exact t.result (subst (λ (n : ℕ). n ≤ 2 ^ 24) (sym t.ensures) c.requires)
 
 pub returns-then-d : goal.returns-then-d
 returns-then-d c =

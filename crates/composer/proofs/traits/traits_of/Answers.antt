@@ -8,4 +8,4 @@ use Rattle.composer.proofs.traits.traits_of.Goals as goal
 pub returns : goal.returns
 unfolding drawn_traits tempo_draw_of lead_voice_of
 returns c =
-    rw (traits_drawn c.args.style c.args.seed, c.lead_voice-vd.ensures, c.stream-vs.ensures, c.beats-td.ensures, c.stream-ts.ensures, c.drawn_key-key.ensures)
+    rw (traits_drawn c.args.style c.args.seed, c.lead_voice.ensures, c.stream-vs.ensures, c.beats.ensures, c.stream-ts.ensures, c.drawn_key.ensures)

@@ -1,8 +1,8 @@
 -- A turn makes one draw more and puts it at its place; at the end every place has its draw. Assumes nothing.
-use Rattle.std.proofs.Common.{◌≡◌, length, sym, ap, ◌∙◌, below_more, arith, rules}
+use Rattle.std.proofs.Common.{◌≡◌, ℕ, length, sym, ap, ◌∙◌, below_more, arith, rules}
 use Rattle.std.proofs.lemmas.Grind.{common_steps}
 use Rattle.streams.specs.declared.stream.NoiseStream.{NoiseStream}
-use Rattle.streams.specs.declared.stream.WordDraw.{WordDraw}
+use Rattle.streams.specs.declared.stream.Draw.{Draw}
 use Rattle.streams.proofs.StreamLaws.{after_none}
 use Rattle.probe.specs.Draws.{stream_at, drawn_of, draw_of}
 use Rattle.probe.proofs.DrawsLaws.{drawn_on_lem}
@@ -17,8 +17,8 @@ loop-place-preserved c =
     let l = c.loop-place in
     let s = stream_at c.args.seed c.args.counter in
     let e = c.drawn-d.ensures ∙ ap (drawn_of c.args.kind) l.invariant.0 in
-    let v = ap (λ (d : WordDraw). d.value) e in
-    (ap (λ (d : WordDraw). d.stream) e ∙ drawn_on_lem c.args.kind s l.place-index, below_more _ _ (λ k h. grind (arith, common_steps, l.invariant.1 k)) (grind (arith, common_steps)))
+    let v = ap (λ (d : Draw ℕ). d.value) e in
+    (ap (λ (d : Draw ℕ). d.stream) e ∙ drawn_on_lem c.args.kind s l.place-index, below_more _ _ (λ k h. grind (arith, common_steps, l.invariant.1 k)) (grind (arith, common_steps)))
 
 pub returns : goal.returns
 returns c =

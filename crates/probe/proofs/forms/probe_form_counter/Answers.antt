@@ -7,5 +7,5 @@ use Rattle.probe.proofs.forms.probe_form_counter.Goals as goal
 pub returns : goal.returns
 returns c =
     let seed = c.args.seed in
-    let e : c.decide-d.result.stream.counter ≡ counter_of seed = rw (c.decide-d.ensures, c.stream-s.ensures) in
+    let e : c.decide.result.stream.counter ≡ counter_of seed = rw (c.decide.ensures, c.stream-s.ensures) in
     record { value = e; draws = e ∙ decide_counter seed }

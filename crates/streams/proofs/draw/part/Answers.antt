@@ -1,7 +1,6 @@
 -- The truncated product is the definition's, and the branches are its cap. Assumes nothing.
 use Rattle.std.proofs.Common.{◌≡◌, ℕ, ◌-◌, ◌^◌, min, ap, ◌∙◌, arith}
 use Rattle.streams.specs.Draw.{picked_of}
-use Rattle.laws.proofs.Exact.{exact}
 use Rattle.streams.proofs.draw.part.Goals as goal
 use Rattle.streams.proofs.draw.part.Goals.{After-truncated-t}
 
@@ -11,9 +10,6 @@ unfolding picked_of
 capped a =
     ap (λ (t : ℕ). min t (a.exact-parts.result - 1)) a.truncated-t.ensures
     ∙ ap (picked_of a.args.u) a.exact-parts.ensures.value
-
-pub int_to_float-parts : goal.int_to_float-parts
-int_to_float-parts c = exact c.exact-parts.result c.exact-parts.ensures.upper_bound
 
 pub returns-then-t-parts : goal.returns-then-t-parts
 returns-then-t-parts c = omega (arith, capped (goal.at.returns-then-t-parts c).After-truncated-t)

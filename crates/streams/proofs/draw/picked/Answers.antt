@@ -13,6 +13,3 @@ told a =
 
 pub overflow_cast-result : goal.overflow_cast-result
 overflow_cast-result c = omega (arith, told (goal.at.overflow_cast-result c).After-part, picked_le c.args.u c.args.n)
-
-pub returns : goal.returns
-returns c = told (goal.at.returns c).After-part

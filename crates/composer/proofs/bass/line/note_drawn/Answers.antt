@@ -7,12 +7,12 @@ pub returns-then-i-eq0 : goal.returns-then-i-eq0
 unfolding note_drawn_of
 returns-then-i-eq0 c = rw (eq-eqb _ 0 c.if-i-eq0.true) c.root_note.ensures
 
-pub returns-then-c-p : goal.returns-then-c-p
+pub returns-then-pickup-p : goal.returns-then-pickup-p
 unfolding note_drawn_of
-returns-then-c-p c =
-    rw (ne_eqb _ 0 c.if-i-eq0.false, ← c.pickup_drawn-c.ensures, c.if-c-p.true) c.pickup_note.ensures
+returns-then-pickup-p c =
+    rw (ne_eqb _ 0 c.if-i-eq0.false, ← c.pickup_drawn-pickup.ensures, c.if-pickup-p.true) c.pickup_note.ensures
 
-pub returns-else-c-p : goal.returns-else-c-p
+pub returns-else-pickup-p : goal.returns-else-pickup-p
 unfolding note_drawn_of
-returns-else-c-p c =
-    rw (ne_eqb _ 0 c.if-i-eq0.false, ← c.pickup_drawn-c.ensures, c.if-c-p.false) c.later_note.ensures
+returns-else-pickup-p c =
+    rw (ne_eqb _ 0 c.if-i-eq0.false, ← c.pickup_drawn-pickup.ensures, c.if-pickup-p.false) c.later_note.ensures

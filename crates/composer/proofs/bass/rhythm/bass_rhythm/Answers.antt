@@ -11,9 +11,6 @@ pub loop-i-init : goal.loop-i-init
 unfolding steps_to
 loop-i-init c = (omega arith, omega arith, refl)
 
-pub overflow_add-n : goal.overflow_add-n
-overflow_add-n c = omega (arith, bit_few c.chance-c.result.value)
-
 pub loop-i-preserved : goal.loop-i-preserved
 loop-i-preserved c =
     let l = c.loop-i in

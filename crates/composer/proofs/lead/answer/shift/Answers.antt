@@ -1,16 +1,12 @@
 -- The chance decides, and each call is its definition. Assumes nothing.
-use mathlib.Core.Path.{sym, ap, ◌∙◌}
+use borrow.Author.Rules.{rules}
 use Rattle.composer.specs.Lead.Answer.{shift_of}
 use Rattle.composer.proofs.lead.answer.shift.Goals as goal
 
-pub returns-then-c : goal.returns-then-c
+pub returns-then-shifts : goal.returns-then-shifts
 unfolding shift_of
-returns-then-c c =
-    let e = sym (ap (λ d. d.value) c.chance-c.ensures) ∙ c.if-c.true in
-    rw (e, c.clamp-moved.ensures, c.either_way-by.ensures, c.coin-up.ensures, c.chance-c.ensures)
+returns-then-shifts c = search rules
 
-pub returns : goal.returns
+pub returns-else-shifts : goal.returns-else-shifts
 unfolding shift_of
-returns c =
-    let e = sym (ap (λ d. d.value) c.chance-c.ensures) ∙ c.if-c.false in
-    rw (e, c.chance-c.ensures)
+returns-else-shifts c = search rules

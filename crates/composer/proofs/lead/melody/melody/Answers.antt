@@ -11,36 +11,9 @@ use Rattle.composer.proofs.lead.TonesLaws.{scale_few, ground_from_lem}
 use Rattle.composer.proofs.lead.melody.melody.Invariants.{sung_with}
 use Rattle.composer.proofs.lead.melody.melody.Goals as goal
 
-pub start-first-requires : goal.start-first-requires
-start-first-requires c = let r = c.requires in (r.fair, r.wide, r.high, r.some_start)
-
-pub scale_notes-sung-requires : goal.scale_notes-sung-requires
-scale_notes-sung-requires c = let r = c.requires in (omega (arith, r.fair), r.wide, omega (arith, r.high))
-
 pub loop-k-init : goal.loop-k-init
 unfolding bars_to
 loop-k-init c = (omega arith, omega arith, refl)
-
-pub offset_bounds-bars-k : goal.offset_bounds-bars-k
-offset_bounds-bars-k c = omega arith
-
-pub bounds-bars-k : goal.bounds-bars-k
-bounds-bars-k c = omega arith
-
-pub offset_bounds-beats-k : goal.offset_bounds-beats-k
-offset_bounds-beats-k c = omega arith
-
-pub bounds-beats-k : goal.bounds-beats-k
-bounds-beats-k c = omega arith
-
-pub overflow_cast-bar : goal.overflow_cast-bar
-overflow_cast-bar c = omega arith
-
-pub overflow_step-k : goal.overflow_step-k
-overflow_step-k c = omega arith
-
-pub loop-k-smaller-then-n-eq0 : goal.loop-k-smaller-then-n-eq0
-loop-k-smaller-then-n-eq0 c = omega arith
 
 -- a bar with no beat sings nothing
 pub loop-k-preserved-then-n-eq0 : goal.loop-k-preserved-then-n-eq0
@@ -65,9 +38,6 @@ loop-i-init c =
     let few = c.requires.few l.k (omega arith) in
     (omega arith, few, omega arith, omega arith, refl)
 
-pub place_of-place-requires : goal.place_of-place-requires
-place_of-place-requires c = omega arith
-
 pub step-t-requires : goal.step-t-requires
 unfolding nothing_sung
 step-t-requires c =
@@ -81,24 +51,6 @@ step-t-requires c =
     let ground = g.ensures ∙ ground_from_lem c.args.style (get_or c.args.bars l.k past_chord) c.args.pool.now window.result window.ensures in
     let asks = note_asks c.args.beats c.args.bars c.args.pool.now c.args.style r c.args.s start.result (sung_with (replicate 56 no_lead) 0 opened.result) (sung_with l.notes l.count l.line) (sung_with l2.notes l2.count l2.line) g.result l.k l2.i start.ensures (rw opened.ensures) l.invariant.2 ground l2.invariant.4 (omega arith) (omega arith) in
     record { sound = asks.0; fit = rw c.opening-first.ensures asks.1.line }
-
-pub offset_bounds-at-i : goal.offset_bounds-at-i
-offset_bounds-at-i c = omega arith
-
-pub bounds-at-i : goal.bounds-at-i
-bounds-at-i c = omega arith
-
-pub offset_bounds-notes-count : goal.offset_bounds-notes-count
-offset_bounds-notes-count c = omega arith
-
-pub overflow_add-count : goal.overflow_add-count
-overflow_add-count c = omega arith
-
-pub overflow_step-i : goal.overflow_step-i
-overflow_step-i c = omega arith
-
-pub loop-i-smaller : goal.loop-i-smaller
-loop-i-smaller c = omega arith
 
 pub loop-i-preserved : goal.loop-i-preserved
 loop-i-preserved c =
@@ -115,12 +67,6 @@ loop-i-preserved c =
       omega arith,
       bar_more c.args.pool.now g k (get_or c.args.beats k past_beats) (sung_with l0.notes l0.count l0.line) l.i l.notes l.count l.line place.result first.result t.result l.invariant.4 place.ensures first.ensures t.ensures,
     )
-
-pub overflow_step-k-in-loop-k : goal.overflow_step-k-in-loop-k
-overflow_step-k-in-loop-k c = omega arith
-
-pub loop-k-smaller : goal.loop-k-smaller
-loop-k-smaller c = omega arith
 
 pub loop-k-preserved : goal.loop-k-preserved
 loop-k-preserved c =

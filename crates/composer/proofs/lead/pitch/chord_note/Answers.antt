@@ -1,20 +1,16 @@
 -- The drift is below 9, and the tones are those for the beat. Assumes nothing.
+use Prim.Native.Nat.{◌<◌}
 use native.Mathlib.Omega.{arith}
 use Rattle.composer.specs.Lead.Pitch.{chord_note_of}
 use Rattle.composer.proofs.lead.PitchLaws.{picked_below}
 use borrow.Author.Rules.{rules}
 use Rattle.composer.proofs.lead.pitch.chord_note.Goals as goal
 
-pub overflow_add-prev : goal.overflow_add-prev
-overflow_add-prev c = omega (arith, picked_below _ 9 c.pick-p.ensures (omega arith))
-
-pub near-n-requires : goal.near-n-requires
-near-n-requires c = rw c.tones_for-t.ensures (search rules)
-
-pub bounded-m-requires : goal.bounded-m-requires
-bounded-m-requires c = rw c.tones_for-t.ensures (search rules)
+pub map-requires : goal.map-requires
+map-requires c =
+    let drift : c.pick.result.value < 9 = picked_below _ 9 c.pick.ensures (omega arith) in
+    search (rules, drift)
 
 pub returns : goal.returns
 unfolding chord_note_of
-returns c =
-    rw (c.bounded-m.ensures, c.near-n.ensures, c.held-target.ensures, c.tones_for-t.ensures, c.pick-p.ensures)
+returns c = search rules

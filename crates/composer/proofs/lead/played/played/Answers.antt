@@ -9,18 +9,6 @@ pub loop-i-init : goal.loop-i-init
 unfolding play_to
 loop-i-init c = (omega arith, omega arith, refl)
 
-pub offset_bounds-m-i : goal.offset_bounds-m-i
-offset_bounds-m-i c = omega arith
-
-pub offset_bounds-notes-i : goal.offset_bounds-notes-i
-offset_bounds-notes-i c = omega arith
-
-pub overflow_step-i : goal.overflow_step-i
-overflow_step-i c = omega arith
-
-pub loop-i-smaller : goal.loop-i-smaller
-loop-i-smaller c = omega arith
-
 pub loop-i-preserved : goal.loop-i-preserved
 loop-i-preserved c =
     let l = c.loop-i in

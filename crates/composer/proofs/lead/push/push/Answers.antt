@@ -1,17 +1,12 @@
 -- The fraction and the chance decide as in the definition. Assumes nothing.
+use borrow.Author.Rules.{rules}
 use Rattle.composer.specs.Lead.Push.{push_of}
 use Rattle.composer.proofs.lead.push.push.Goals as goal
 
-pub returns-then-c : goal.returns-then-c
+pub returns-then-fract : goal.returns-then-fract
 unfolding push_of
-returns-then-c c =
-    rw (← c.fract-f.ensures, c.if-f.true, ← c.chance-c.ensures, c.if-c.true)
+returns-then-fract c = search rules
 
-pub returns-then-f : goal.returns-then-f
+pub returns-else-fract : goal.returns-else-fract
 unfolding push_of
-returns-then-f c =
-    rw (← c.fract-f.ensures, c.if-f.true, ← c.chance-c.ensures, c.if-c.false)
-
-pub returns : goal.returns
-unfolding push_of
-returns c = rw (← c.fract-f.ensures, c.if-f.false)
+returns-else-fract c = search rules

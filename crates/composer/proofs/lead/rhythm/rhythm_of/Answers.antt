@@ -1,12 +1,14 @@
 -- After k turns the first k bars are drawn, then answered, each of at most seven beats. Assumes nothing.
 use mathlib.Core.Path.{◌≡◌, refl, ap, ◌∙◌}
+use mathlib.Core.List.{List}
 use Prim.Native.Nat.{◌+◌}
 use native.Mathlib.Numerals.{add-one}
 use native.Mathlib.Omega.{arith}
 use lib.ListN.{set}
 use Rattle.laws.specs.Lists.{pad}
+use Rattle.streams.specs.declared.stream.Draw.{Draw}
 use Rattle.composer.specs.Lead.Rhythm.{state_to, statement_of, reply_to, rhythm_of}
-use Rattle.composer.specs.declared.lead.rhythm.Rhythm.{Rhythm}
+use Rattle.composer.specs.declared.lead.beats.Beats.{Beats}
 use Rattle.composer.proofs.lead.BeatsLaws.{set_short, empty_short}
 use Rattle.composer.proofs.lead.TurnLaws.{whole, state_on, reply_on, fallback_by}
 use Rattle.composer.proofs.lead.rhythm.rhythm_of.Goals as goal
@@ -15,65 +17,14 @@ pub loop-k-init : goal.loop-k-init
 unfolding state_to pad
 loop-k-init c = (omega arith, empty_short 8, refl)
 
-pub offset_bounds-bars-k : goal.offset_bounds-bars-k
-offset_bounds-bars-k c = omega arith
-
-pub bounds-bars-k : goal.bounds-bars-k
-bounds-bars-k c = omega arith
-
-pub overflow_step-k : goal.overflow_step-k
-overflow_step-k c = omega arith
-
-pub loop-k-smaller : goal.loop-k-smaller
-loop-k-smaller c = omega arith
-
 pub loop-k-preserved : goal.loop-k-preserved
 unfolding state_to
 loop-k-preserved c =
     let l = c.loop-k in (
       omega arith,
-      set_short l.bars l.k c.statement_bar-d.result.beats c.statement_bar-d.ensures.n_bound l.invariant.1,
+      set_short l.bars l.k c.statement_bar-d.result.value c.statement_bar-d.ensures.n_bound l.invariant.1,
       rw add-one (state_on c.args.style (whole l.bars l.stream) (state_to c.args.style c.args.s l.k) l.k c.statement_bar-d.result l.invariant.2 c.statement_bar-d.ensures.value),
     )
-
-pub bounds-bars-0 : goal.bounds-bars-0
-bounds-bars-0 c = omega arith
-
-pub bounds-bars-1 : goal.bounds-bars-1
-bounds-bars-1 c = omega arith
-
-pub overflow_add-few : goal.overflow_add-few
-overflow_add-few c = let h = c.loop-k.invariant.1 in omega (arith, h 0, h 1)
-
-pub bounds-bars-2 : goal.bounds-bars-2
-bounds-bars-2 c = omega arith
-
-pub overflow_add-few-2 : goal.overflow_add-few-2
-overflow_add-few-2 c = let h = c.loop-k.invariant.1 in omega (arith, h 0, h 1, h 2)
-
-pub bounds-bars-3 : goal.bounds-bars-3
-bounds-bars-3 c = omega arith
-
-pub overflow_add-few-3 : goal.overflow_add-few-3
-overflow_add-few-3 c = let h = c.loop-k.invariant.1 in omega (arith, h 0, h 1, h 2, h 3)
-
-pub bounds-bars-0-2 : goal.bounds-bars-0-2
-bounds-bars-0-2 c = omega arith
-
-pub spared-first-requires : goal.spared-first-requires
-spared-first-requires c = (omega arith, c.loop-k.invariant.1 0)
-
-pub bounds-bars-2-2 : goal.bounds-bars-2-2
-bounds-bars-2-2 c = omega arith
-
-pub spared-third-requires : goal.spared-third-requires
-spared-third-requires c = (omega arith, c.loop-k.invariant.1 2)
-
-pub bounds-bars-0-3 : goal.bounds-bars-0-3
-bounds-bars-0-3 c = omega arith
-
-pub bounds-bars-2-3 : goal.bounds-bars-2-3
-bounds-bars-2-3 c = omega arith
 
 pub loop-k-2-init : goal.loop-k-2-init
 unfolding reply_to
@@ -81,36 +32,12 @@ loop-k-2-init c =
     let l = c.loop-k in
     (omega arith, set_short (set l.bars 0 c.spared-first.result) 2 c.spared-third.result c.spared-third.ensures.n_bound (set_short l.bars 0 c.spared-first.result c.spared-first.ensures.n_bound l.invariant.1), refl)
 
-pub offset_bounds-bars-k-in-loop-k-2 : goal.offset_bounds-bars-k-in-loop-k-2
-offset_bounds-bars-k-in-loop-k-2 c = omega arith
-
-pub bounds-bars-k-in-loop-k-2 : goal.bounds-bars-k-in-loop-k-2
-bounds-bars-k-in-loop-k-2 c = omega arith
-
-pub answer_bar-d-requires : goal.answer_bar-d-requires
-answer_bar-d-requires c = let l = c.loop-k-2 in l.invariant.1 l.k
-
-pub overflow_add-bars : goal.overflow_add-bars
-overflow_add-bars c = omega arith
-
-pub offset_bounds-bars-k-in-loop-k-2-2 : goal.offset_bounds-bars-k-in-loop-k-2-2
-offset_bounds-bars-k-in-loop-k-2-2 c = omega arith
-
-pub bounds-bars-k-in-loop-k-2-2 : goal.bounds-bars-k-in-loop-k-2-2
-bounds-bars-k-in-loop-k-2-2 c = omega arith
-
-pub overflow_step-k-in-loop-k-2 : goal.overflow_step-k-in-loop-k-2
-overflow_step-k-in-loop-k-2 c = omega arith
-
-pub loop-k-2-smaller : goal.loop-k-2-smaller
-loop-k-2-smaller c = omega arith
-
 pub loop-k-2-preserved : goal.loop-k-2-preserved
 unfolding reply_to
 loop-k-2-preserved c =
     let l = c.loop-k-2 in (
       omega arith,
-      set_short l.bars (4 + l.k) c.answer_bar-d.result.beats c.answer_bar-d.ensures.n_bound l.invariant.1,
+      set_short l.bars (4 + l.k) c.answer_bar-d.result.value c.answer_bar-d.ensures.n_bound l.invariant.1,
       rw add-one (reply_on (whole l.bars l.stream) (reply_to (whole (set (set c.loop-k.bars 0 c.spared-first.result) 2 c.spared-third.result) c.loop-k.stream) l.k) l.k c.answer_bar-d.result l.invariant.2 c.answer_bar-d.ensures.value),
     )
 
@@ -123,4 +50,4 @@ returns c =
     let g : u.k ≡ 4 = omega arith in
     let drawn = u.invariant.2 ∙ ap (state_to c.args.style c.args.s) g in
     let said = fallback_by (whole u.bars u.stream) (state_to c.args.style c.args.s 4) c.spared-first.result c.spared-third.result drawn c.spared-first.ensures.value c.spared-third.ensures.value in
-    record { value = l.invariant.2 ∙ ap (reply_to (whole (set (set u.bars 0 c.spared-first.result) 2 c.spared-third.result) u.stream)) e ∙ ap (λ (r : Rhythm). reply_to r 4) said; by_index = l.invariant.1 }
+    record { value = l.invariant.2 ∙ ap (reply_to (whole (set (set u.bars 0 c.spared-first.result) 2 c.spared-third.result) u.stream)) e ∙ ap (λ (r : Draw (List Beats)). reply_to r 4) said; by_index = l.invariant.1 }

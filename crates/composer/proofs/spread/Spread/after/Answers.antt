@@ -1,7 +1,8 @@
 -- One draw, and the definition's own operations. Assumes nothing.
+use borrow.Author.Rules.{rules}
 use Rattle.composer.specs.Spread.{after_of}
 use Rattle.composer.proofs.spread.Spread.after.Goals as goal
 
 pub returns : goal.returns
 unfolding after_of
-returns c = rw c.unit-d.ensures
+returns c = search rules
