@@ -9,7 +9,7 @@ use crate::lead::ground::{Ground, tones_for};
 use crate::lead::line::{Line, Place};
 use crate::lead::role::Role;
 use crate::lead::scale::scale_step;
-use crate::lead::tones::{Tones, distance, near};
+use crate::lead::tones::{Tones, near};
 use streams::draw::{chance, coin, pick};
 use streams::stream::NoiseStream;
 
@@ -59,7 +59,7 @@ fn bounded(t: Tones, n: u8, prev: u8) -> u8
     requires { (0 < t.n) × (t.n ≤ 20) }
     ensures { result ≡ bounded_of t n prev }
 {
-    if distance(n, prev) > FIFTH {
+    if n.abs_diff(prev) > FIFTH {
         near(t, prev)
     } else {
         n
