@@ -53,20 +53,18 @@ fn root_step(s: NoiseStream) -> RootDraw
 {
     let mut left = first_beat_sum();
     let mut stream = s;
-    let mut i: usize = 0;
-    while i < 3 {
-        let p = BASS_STEP_P[i];
+    for step in 0..3u8 {
+        let p = BASS_STEP_P[step as usize];
         let c = chance(stream, p / left);
         let next = c.stream;
         if c.value {
             return RootDraw {
-                step: i as u8,
+                step: step,
                 stream: next,
             };
         }
         left = left - p;
         stream = next;
-        i += 1;
     }
     let c = chance(stream, BASS_STEP_P[3] / left);
     let next = c.stream;

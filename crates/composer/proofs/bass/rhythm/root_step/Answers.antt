@@ -1,29 +1,25 @@
--- What is left to try from step i on is the answer, and the loop stops at the first that comes. Assumes nothing.
-use mathlib.Core.Path.{refl, sym, ap, ◌∙◌}
-use native.Mathlib.Omega.{arith}
+-- What is left to try from a step on is the answer, and the loop stops at the first that comes. Assumes nothing.
+use Rattle.std.proofs.Common.{refl, sym, ap, ◌∙◌, arith}
 use Rattle.composer.specs.Bass.Rhythm.{root_step_of}
 use Rattle.composer.proofs.bass.RhythmLaws.{root_hit, root_miss, root_last}
 use Rattle.composer.proofs.bass.rhythm.root_step.Goals as goal
 
-pub loop-i-init : goal.loop-i-init
-loop-i-init c = (omega arith, refl)
+pub loop-step-preserved : goal.loop-step-preserved
+loop-step-preserved c =
+    let l = c.loop-step in
+    let miss = root_miss l.stream l.left l.step (omega arith) (ap (λ r. r.value) (sym c.chance-c.ensures) ∙ c.if-c.false) in
+    rw c.chance-c.ensures (sym miss ∙ l.invariant)
 
-pub returns-then-c : goal.returns-then-c
+pub returns-then-c-clause-value : goal.returns-then-c-clause-value
 unfolding root_step_of
-returns-then-c c =
-    let l = c.loop-i in
-    let hit = root_hit l.stream l.left l.i (omega arith) (ap (λ r. r.value) (sym c.chance-c.ensures) ∙ c.if-c.true) in
-    record { value = rw (c.chance-c.ensures, ← c.first_beat_sum-left.ensures) (sym hit ∙ l.invariant.1); step_bound = omega arith }
+returns-then-c-clause-value c =
+    let l = c.loop-step in
+    let hit = root_hit l.stream l.left l.step (omega arith) (ap (λ r. r.value) (sym c.chance-c.ensures) ∙ c.if-c.true) in
+    rw (c.chance-c.ensures, ← c.first_beat_sum-left.ensures) (sym hit ∙ l.invariant)
 
-pub loop-i-preserved : goal.loop-i-preserved
-loop-i-preserved c =
-    let l = c.loop-i in
-    let miss = root_miss l.stream l.left l.i (omega arith) (ap (λ r. r.value) (sym c.chance-c.ensures) ∙ c.if-c.false) in
-    (omega arith, rw c.chance-c.ensures (sym miss ∙ l.invariant.1))
-
-pub returns : goal.returns
+pub returns-clause-value : goal.returns-clause-value
 unfolding root_step_of
-returns c =
-    let l = c.loop-i in
-    let last = root_last l.stream l.left l.i (omega arith) in
-    record { value = rw (c.chance-c-2.ensures, ← c.first_beat_sum-left.ensures) (sym last ∙ l.invariant.1); step_bound = omega arith }
+returns-clause-value c =
+    let l = c.loop-step in
+    let last = root_last l.stream l.left l.step (omega arith) in
+    rw (c.chance-c-2.ensures, ← c.first_beat_sum-left.ensures) (sym last ∙ l.invariant)
