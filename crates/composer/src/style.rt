@@ -6,7 +6,7 @@ use crate::spread::{Spread, between};
 use streams::draw::{ChanceDraw, chance};
 use streams::stream::NoiseStream;
 
-#[derive(Clone, Copy)]
+#[derive(Clone, Copy, PartialEq, Eq, Debug)]
 pub enum Style {
     Hiphop,
     Sleep,
@@ -65,7 +65,7 @@ pub enum Density {
 }
 
 // What the keys strike: a rolled shell of third and seventh, or one chord tone.
-#[derive(Clone, Copy)]
+#[derive(Clone, Copy, PartialEq, Eq, Debug)]
 pub enum Comp {
     Shell,
     Single,

@@ -30,7 +30,7 @@ pub enum Closing {
 }
 
 // What drops out in the body's middle phrase.
-#[derive(Clone, Copy)]
+#[derive(Clone, Copy, PartialEq, Eq, Debug)]
 pub enum Thinning {
     Break,
     BassDrop,

@@ -5,7 +5,7 @@ ghost use Rattle.composer.specs.Form.Spans.{mutes_in, edged_of, spans_by, spans_
 use crate::form::Form;
 use crate::form::song::arrange;
 
-#[derive(Clone, Copy)]
+#[derive(Clone, Copy, PartialEq, Eq, Debug)]
 pub enum SpansAnswer {
     NoneMutes,
     NoneMoves,

@@ -18,7 +18,7 @@ const LEAP: u8 = 4;
 // The chance that an off-beat note is a chord tone.
 const CHORD_TONE_P: f32 = 0.55;
 
-#[derive(Clone, Copy)]
+#[derive(Clone, Copy, PartialEq, Eq, Debug)]
 pub enum Role {
     // the answer opens on the statement's opening notes
     Quote,

@@ -1,5 +1,5 @@
 -- What is left to try from a step on is the answer, and the loop stops at the first that comes. Assumes nothing.
-use Rattle.std.proofs.Common.{refl, sym, ap, ◌∙◌, arith}
+use Rattle.std.proofs.Common.{sym, ap, ◌∙◌, arith}
 use Rattle.composer.specs.Bass.Rhythm.{root_step_of}
 use Rattle.composer.proofs.bass.RhythmLaws.{root_hit, root_miss, root_last}
 use Rattle.composer.proofs.bass.rhythm.root_step.Goals as goal
