@@ -1,6 +1,6 @@
 // A bar of the answer: a statement bar's beats, shifted, pushed, one of them dropped, and settled.
 ghost use Rattle.std.specs.Prelude.{◌≡◌, ◌≤◌};
-ghost use Rattle.composer.specs.Lead.Answer.{either_way_of, clamp_of, shift_of, varied_of, drop_one_of, answer_bar_of};
+ghost use Rattle.composer.specs.Lead.Answer.{either_way_of, shift_of, varied_of, drop_one_of, answer_bar_of};
 
 use crate::lead::beats::{Beats, remove, settle};
 use crate::lead::grid::grid_beat;
@@ -23,18 +23,6 @@ fn either_way(up: bool) -> f32
     if up { EIGHTH_BEATS } else { -EIGHTH_BEATS }
 }
 
-// A beat held between the ends of the grid.
-fn clamp(x: f32) -> f32
-    ensures { result ≡ clamp_of x }
-{
-    let first = grid_beat(0);
-    let last = grid_beat(6);
-    if x < first {
-        return first;
-    }
-    if last < x { last } else { x }
-}
-
 // A beat that may shift an eighth either way.
 fn shift(s: NoiseStream, beat: f32) -> Drawn
     ensures { result ≡ shift_of s beat }
@@ -45,7 +33,8 @@ fn shift(s: NoiseStream, beat: f32) -> Drawn
         let up = coin(sc);
         let next = up.stream;
         let by = either_way(up.value);
-        let moved = clamp(beat + by);
+        // held between the ends of the grid
+        let moved = (beat + by).clamp(grid_beat(0), grid_beat(6));
         return Drawn {
             value: moved,
             stream: next,

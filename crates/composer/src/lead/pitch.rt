@@ -1,7 +1,7 @@
 // A note's pitch, by its role.
 ghost use Rattle.std.specs.Prelude.{◌≡◌, ◌+◌, ◌≤◌, ◌<◌};
 ghost use Rattle.composer.specs.Lead.Ground.{tones_for_of};
-ghost use Rattle.composer.specs.Lead.Pitch.{lower_of, held_of, bounded_of, steps_of, peak_note_of, chord_note_of, passing_note_of, resolve_note_of, close_note_of, pitch_of};
+ghost use Rattle.composer.specs.Lead.Pitch.{bounded_of, steps_of, peak_note_of, chord_note_of, passing_note_of, resolve_note_of, close_note_of, pitch_of};
 ghost use Rattle.composer.specs.Lead.Sound.{Sound, Fit, Quotable};
 
 use crate::chord::FIFTH;
@@ -31,27 +31,6 @@ const SKIP_P: f32 = 0.3;
 pub struct PitchDraw {
     pub note: u8,
     pub stream: NoiseStream,
-}
-
-// x, or hi where x is above it.
-fn lower(x: u8, hi: u8) -> u8
-    ensures { result ≡ lower_of x hi }
-{
-    if x < hi { x } else { hi }
-}
-
-// x held in the window.
-fn held(x: u8, lo: u8, hi: u8) -> u8
-    requires { lo ≤ hi }
-    ensures { result ≡ held_of x lo hi }
-{
-    if x < lo {
-        lo
-    } else if hi < x {
-        hi
-    } else {
-        x
-    }
 }
 
 // n, or the tone nearest to prev where n is further than a fifth from it.
@@ -91,7 +70,7 @@ fn peak_note(s: NoiseStream, g: Ground, prev: u8) -> PitchDraw
     let lift = p.value;
     let next = p.stream;
     let t = g.strong;
-    let target = lower(prev + PEAK_LIFT + lift, g.hi);
+    let target = (prev + PEAK_LIFT + lift).min(g.hi);
     let n = near(t, target);
     PitchDraw {
         note: n,
@@ -116,7 +95,7 @@ fn chord_note(s: NoiseStream, g: Ground, strong: bool, prev: u8) -> PitchDraw
     let drift = p.value;
     let next = p.stream;
     let t = tones_for(g, strong);
-    let target = held(prev + drift - DRIFT, g.lo, g.hi);
+    let target = (prev + drift - DRIFT).clamp(g.lo, g.hi);
     let n = near(t, target);
     let m = bounded(t, n, prev);
     PitchDraw {

@@ -9,4 +9,4 @@ overflow_add-prev-2 c = omega (arith, picked_below _ 3 c.pick-p.ensures (omega a
 
 pub returns : goal.returns
 unfolding peak_note_of
-returns c = rw (c.near-n.ensures, c.lower-target.ensures, c.pick-p.ensures)
+returns c = rw (c.near-n.ensures, c.min-target.ensures, c.pick-p.ensures)
