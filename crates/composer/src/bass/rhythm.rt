@@ -116,10 +116,9 @@ pub(crate) fn bass_rhythms(s: NoiseStream) -> Rhythms
     };
     let mut bars = [z; 8];
     let mut stream = s;
-    for b in 0..8usize {
+    for bar in &mut bars {
         let d = bass_rhythm(stream);
-        let steps = d.steps;
-        bars[b] = steps;
+        *bar = d.steps;
         stream = d.stream;
     }
     Rhythms {

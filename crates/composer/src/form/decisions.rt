@@ -219,9 +219,9 @@ fn draw_all(s: NoiseStream) -> Units
 {
     let mut values = [0.0f32; 29];
     let mut stream = s;
-    for i in 0..29usize {
+    for value in &mut values {
         let d = stream.unit();
-        values[i] = d.value;
+        *value = d.value;
         stream = d.stream;
     }
     Units {

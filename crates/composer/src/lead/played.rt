@@ -71,8 +71,7 @@ pub(crate) fn played(m: Sung, beat_s: f32, dur: f32) -> LeadLane
     let n = m.count;
     let mut notes = [NO_NOTE; 56];
     let mut stream = line.stream;
-    for i in 0..n {
-        let x = m.notes[i];
+    for (i, &x) in m.notes[..n].iter().enumerate() {
         let p = play(x, beat_s, dur, stream);
         let note = p.note;
         notes[i] = note;

@@ -54,9 +54,9 @@ pub(crate) fn statement_bar(s: NoiseStream, style: LeadStyle) -> BeatsDraw
     }
     let mut sounds = [false; 7];
     let mut stream = sr;
-    for i in 0..7usize {
+    for sound in &mut sounds {
         let c = chance(stream, p);
-        sounds[i] = c.value;
+        *sound = c.value;
         stream = c.stream;
     }
     let mut at = [0.0f32; 7];
