@@ -1,5 +1,5 @@
--- The total and the row, as the loops find them, and that a band is one of the rows. Assumes nothing.
-use mathlib.Core.Path.{◌≡◌, refl, ap, ◌∙◌}
+-- The row, as the loop finds it, and that a band is one of the rows. Assumes nothing.
+use mathlib.Core.Path.{◌≡◌, refl}
 use mathlib.Core.Bool.{Bool, true, false, cond}
 use mathlib.Core.List.{List, [], ◌∷◌}
 use Prim.Native.Nat.{ℕ, zero, suc, ◌+◌, ◌-◌, ◌≤◌, ◌<◌}
@@ -8,14 +8,8 @@ use native.Mathlib.Omega.{arith}
 use borrow.Author.Tests.{lt-ltb, le-ltb}
 use lib.Dec.{ltb}
 use lib.ListN.{length, get_or, drop}
-use lib.Seq.{drop-cons}
 use lib.Ieee.{Float}
-use Rattle.composer.specs.Band.{total_of, row_at_of, band_of}
-
-pub total_step : (ws : List ℕ) (i : ℕ) → 0 < i → i ≤ length ws → total_of (drop (i - 1) ws) ≡ get_or ws (i - 1) 0 + total_of (drop i ws)
-total_step ws i h l =
-    let e : suc (i - 1) ≡ i = omega arith in
-    ap total_of (drop-cons ws (i - 1) 0 (omega arith)) ∙ ap (λ (k : ℕ). get_or ws (i - 1) 0 + total_of (drop k ws)) e
+use Rattle.composer.specs.Band.{row_at_of, band_of}
 
 row_step : (ws : List ℕ) (i left : ℕ) → i + 1 < length ws → row_at_of (drop i ws) left ≡ cond (ltb left (get_or ws i 0)) 0 (1 + row_at_of (drop (suc i) ws) (left - get_or ws i 0))
 unfolding row_at_of

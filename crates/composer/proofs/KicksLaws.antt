@@ -1,40 +1,42 @@
 -- A score's kicks are in order, and each time occurs as often as among the kicks; and laws of the loop that hears them. Assumes nothing.
 use mathlib.Core.Path.{◌≡◌, refl, sym, ap, ◌∙◌}
 use mathlib.Core.Bool.{Bool, true, false, cond}
-use mathlib.Core.List.{List, [], ◌∷◌, ◌++◌, append-nil, foldl}
-use Prim.Native.Nat.{◌+◌, ◌≤◌, ◌<◌}
+use mathlib.Core.List.{List, [], ◌∷◌, ◌++◌}
+use Prim.Native.Nat.{ℕ, zero, suc, ◌≤◌, ◌<◌}
 use native.Mathlib.Omega.{arith}
-use lib.ListN.{length, take, drop, set, length-append}
-use lib.Seq.{append_snoc}
+use lib.ListN.{length, get_or, take, drop}
 use lib.Ieee.{Float, nan, inf, binary32, of_bits, to_bits}
 use borrow.Author.Tests.{le-leb, lt-leb}
 use Rattle.laws.specs.Lists.{pad}
 use Rattle.laws.specs.Order.{total_le}
 use Rattle.laws.specs.Sorts.{count, insert, sort, Sorted}
-use Rattle.laws.proofs.Lists.{pad_push}
 use Rattle.laws.proofs.Sorts.{sort_pad, length_sort, count_sort, floats_sorted}
 use Rattle.composer.specs.Note.{zero32}
 use Rattle.composer.specs.Refusal.{Gives, Refuses, answered}
-use Rattle.composer.specs.Kicks.{is_kick, times_of, kick_times, hear_of, kicks_in, kicks_of}
+use Rattle.composer.specs.Kicks.{is_kick, times_of, kick_times, kicks_in, kicks_of}
+use denote.Enum.Bare.{sameb}
+use Rattle.composer.specs.contracts.note.DrumKind.{the_type}
 use Rattle.composer.specs.declared.note.Hit.{Hit}
+use Rattle.composer.specs.declared.note.DrumKind.{DrumKind}
 use Rattle.composer.specs.declared.score.Score.{Score}
 use Rattle.composer.specs.declared.kicks.KickTimes.{KickTimes}
 
--- ---- the loop
-hear_run : (ys : List Float) (hs : List Hit) → length ys + length hs ≤ 98 → foldl hear_of (kick_times ys) hs ≡ kick_times (ys ++ times_of hs)
-unfolding times_of
-hear_run ys [] h = rw append-nil
-hear_run ys (x ∷ hs) h = go (is_kick x.kind) (λ (zs : List Float) (l : length zs + length hs ≤ 98). hear_run zs hs l)
-  where
-    go : (t : Bool) → ((zs : List Float) → length zs + length hs ≤ 98 → foldl hear_of (kick_times zs) hs ≡ kick_times (zs ++ times_of hs))
-        → foldl hear_of (cond t (record { at = set (pad zero32 98 ys) (length ys) x.at; n = length ys + 1 }) (kick_times ys)) hs ≡ kick_times (ys ++ cond t (x.at ∷ times_of hs) (times_of hs))
-    go true r =
-        let l : length (ys ++ (x.at ∷ [])) ≡ length ys + 1 = length-append ys (x.at ∷ []) in
-        rw (pad_push zero32 98 ys x.at (length ys) refl (omega arith), ← l, ← append_snoc ys x.at (times_of hs)) (r (ys ++ (x.at ∷ [])) (omega arith))
-    go false r = r ys (omega arith)
+-- ---- the loop: what the test says, and a hit more
+pub kick_test : (k : DrumKind) → sameb the_type k DrumKind.Kick ≡ is_kick k
+kick_test DrumKind.Kick = refl
+kick_test DrumKind.Snare = refl
+kick_test DrumKind.Hat = refl
+kick_test DrumKind.OpenHat = refl
 
-pub hear_whole : (hs : List Hit) → length hs ≤ 98 → foldl hear_of (kick_times []) hs ≡ kick_times (times_of hs)
-hear_whole hs h = hear_run [] hs (omega arith)
+pub times_more : (hs : List Hit) (i : ℕ) (d : Hit) → i < length hs → times_of (take (suc i) hs) ≡ times_of (take i hs) ++ cond (is_kick (get_or hs i d).kind) ((get_or hs i d).at ∷ []) []
+unfolding times_of
+times_more [] i d h = absurd (omega arith)
+times_more (x ∷ hs) zero d h = refl
+times_more (x ∷ hs) (suc i) d h = go (is_kick x.kind) (times_of (take i hs)) _ (times_more hs i d (omega arith))
+  where
+    go : (t : Bool) (ys zs : List Float) {xs : List Float} → xs ≡ ys ++ zs → cond t (x.at ∷ xs) xs ≡ cond t (x.at ∷ ys) ys ++ zs
+    go true ys zs e = ap (λ (xs : List Float). x.at ∷ xs) e
+    go false ys zs e = e
 
 -- the times in an array, sorted where they stand
 pub times_sorted : (xs : List Float) (t : KickTimes) (a : List Float) → t ≡ kick_times xs → a ≡ sort total_le (take t.n t.at) ++ drop t.n t.at → ◌≡◌ {A = KickTimes} (record { at = a; n = t.n }) (kick_times (sort total_le xs))

@@ -1,5 +1,5 @@
 -- The times of a score's kicks in order, and a score with no drums. Definitions only.
-use Rattle.std.specs.Prelude.{Bool, true, false, cond, List, [], ◌∷◌, ◌+◌, leb, length, take, set, replicate, Float, Result, Ok, Err}
+use Rattle.std.specs.Prelude.{Bool, true, false, cond, List, [], ◌∷◌, leb, length, take, replicate, Float, Result, Ok, Err}
 use Rattle.laws.specs.Lists.{pad}
 use Rattle.laws.specs.Order.{total_le}
 use Rattle.laws.specs.Sorts.{sort}
@@ -24,10 +24,6 @@ times_of (h ∷ hs) = cond (is_kick h.kind) (h.at ∷ times_of hs) (times_of hs)
 -- a list of at most 98 in the struct
 abbrev pub kick_times : List Float → KickTimes
 kick_times xs = record { at = pad zero32 98 xs; n = length xs }
-
--- one hit more
-abbrev pub hear_of : KickTimes → Hit → KickTimes
-hear_of t h = cond (is_kick h.kind) (record { at = set t.at t.n h.at; n = t.n + 1 }) t
 
 -- a score's kicks in order, as a list
 unfoldable pub kicks_in : Score → List Float

@@ -1,22 +1,16 @@
 // The choice among weighted rows by one unit draw.
-ghost use Rattle.std.specs.Prelude.{◌≡◌, ◌^◌, ◌≤◌, length};
-ghost use Rattle.composer.specs.Band.{total_of, row_at_of, band_of};
+ghost use Rattle.std.specs.Prelude.{◌≡◌, ◌^◌, ◌≤◌, length, sum};
+ghost use Rattle.composer.specs.Band.{row_at_of, band_of};
 
 use streams::draw::part;
 
 // The sum of the weights.
 fn total(weights: &[u16]) -> u32
     requires { length weights.now ≤ 256 }
-    ensures value { result ≡ total_of weights.now }
+    ensures value { result ≡ sum weights.now }
     ensures upper_bound { result ≤ 2 ^ 24 }
 {
-    let mut i = weights.len();
-    let mut sum: u32 = 0;
-    while 0 < i {
-        i -= 1;
-        sum += weights[i] as u32;
-    }
-    sum
+    weights.iter().map(|w| *w as u32).sum()
 }
 
 // The row whose band holds `at`, the bands laid end to end from 0 on; the last row past them all.
@@ -25,16 +19,15 @@ fn row_at(weights: &[u16], at: u32) -> usize
     ensures { result ≡ row_at_of weights.now at }
 {
     let mut left = at;
-    let mut i: usize = 0;
-    while i < weights.len() - 1 {
-        let w = weights[i] as u32;
+    let last = weights.len() - 1;
+    for (i, w) in weights[..last].iter().enumerate() {
+        let w = *w as u32;
         if left < w {
             return i;
         }
         left -= w;
-        i += 1;
     }
-    i
+    last
 }
 
 // The band that the unit u falls in, each band as wide as its weight.

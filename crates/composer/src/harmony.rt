@@ -113,8 +113,8 @@ fn chords(key: u8, row: [u8; 8]) -> [Chord; 8]
     ensures { result ≡ chords_of key row }
 {
     let mut out = [NO_CHORD; 8];
-    for k in 0..8usize {
-        out[k] = voiced(row[k], key);
+    for (k, &d) in row.iter().enumerate() {
+        out[k] = voiced(d, key);
     }
     out
 }
@@ -136,10 +136,8 @@ pub fn bar_chords(bars: [Chord; 8]) -> [[u8; 4]; 8]
     ensures { result ≡ notes_of bars }
 {
     let mut out = [[0u8; 4]; 8];
-    for b in 0..8usize {
-        let c = bars[b];
-        let notes = c.notes;
-        out[b] = notes;
+    for (b, c) in bars.iter().enumerate() {
+        out[b] = c.notes;
     }
     out
 }

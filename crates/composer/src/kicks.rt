@@ -1,6 +1,6 @@
 // A score's kicks, and a score without its drums.
 ghost use Rattle.std.specs.Prelude.{◌≡◌, ◌+◌, ◌<◌, ◌≤◌, take};
-ghost use Rattle.composer.specs.Kicks.{is_kick, hear_of, kick_times, times_of, kicks_of, unbeaten_of};
+ghost use Rattle.composer.specs.Kicks.{kick_times, times_of, kicks_of, unbeaten_of};
 
 use crate::note::{DrumKind, Hit, NO_HIT};
 use crate::refusal::Refusal;
@@ -14,47 +14,21 @@ pub struct KickTimes {
     pub n: usize,
 }
 
-fn is_kick(kind: DrumKind) -> bool
-    ensures { result ≡ is_kick kind }
-{
-    match kind {
-        DrumKind::Kick => true,
-        DrumKind::Snare => false,
-        DrumKind::Hat => false,
-        DrumKind::OpenHat => false,
-    }
-}
-
-// One hit more: its time, if it is a kick.
-fn hear(t: KickTimes, h: Hit) -> KickTimes
-    requires { t.n < 98 }
-    ensures value { result ≡ hear_of t h }
-    ensures n_bound { result.n ≤ t.n + 1 }
-{
-    let kind = h.kind;
-    if is_kick(kind) {
-        let n = t.n;
-        let mut at = t.at;
-        at[n] = h.at;
-        KickTimes { at: at, n: n + 1 }
-    } else {
-        t
-    }
-}
-
 // The times of the kicks among the first n hits, in the hits' order.
 fn heard(hits: [Hit; 98], n: usize) -> KickTimes
     requires { n ≤ 98 }
     ensures value { result ≡ kick_times (times_of (take n hits)) }
     ensures n_bound { result.n ≤ 98 }
 {
-    let z = [0.0f32; 98];
-    let mut t = KickTimes { at: z, n: 0 };
-    for i in 0..n {
-        let h = hits[i];
-        t = hear(t, h);
+    let mut at = [0.0f32; 98];
+    let mut count: usize = 0;
+    for hit in &hits[..n] {
+        if hit.kind == DrumKind::Kick {
+            at[count] = hit.at;
+            count += 1;
+        }
     }
-    t
+    KickTimes { at: at, n: count }
 }
 
 // The times of the kicks among the first `hit_count` hits, ascending: equal ones kept, -0 before 0, a NaN last. A

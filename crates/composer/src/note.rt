@@ -3,7 +3,7 @@ ghost use Rattle.std.specs.Prelude.{◌≡◌};
 ghost use Rattle.composer.specs.Note.{role_number_of, kind_number_of};
 
 // Why a note is what it is: a lead note's role in the melody, and one for all that lies under the lead.
-#[derive(Clone, Copy)]
+#[derive(Clone, Copy, PartialEq, Eq, Debug)]
 pub enum NoteRole {
     Quote,
     Close,
@@ -46,7 +46,7 @@ pub struct Note {
     pub dur: f32,
 }
 
-#[derive(Clone, Copy)]
+#[derive(Clone, Copy, PartialEq, Eq, Debug)]
 pub enum DrumKind {
     Kick,
     Snare,

@@ -81,7 +81,7 @@ pub enum Density {
 }
 
 // What the keys strike: a rolled shell of third and seventh, or one chord tone.
-#[derive(Clone, Copy)]
+#[derive(Clone, Copy, PartialEq, Eq, Debug)]
 pub enum Comp {
     Shell,
     Single,

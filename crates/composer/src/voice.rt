@@ -6,7 +6,7 @@ use crate::band::band;
 use crate::style::Style;
 use streams::stream::{Draw, NoiseStream};
 
-#[derive(Clone, Copy)]
+#[derive(Clone, Copy, PartialEq, Eq, Debug)]
 pub enum LeadVoice {
     EpVel,
     Pluck,

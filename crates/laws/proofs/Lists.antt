@@ -1,7 +1,7 @@
--- Lists that a loop makes: a buffer filled from its start, an array filled over its padding, a test of the entries so far.
+-- Lists that a loop makes: a buffer filled from its start, an array filled over its padding; a test of each entry.
 -- Assumes nothing.
 use mathlib.Core.Path.{◌≡◌, refl, sym, ap, ◌∙◌, subst}
-use mathlib.Core.Bool.{Bool, false, ◌||◌, or-false, or_assoc}
+use mathlib.Core.Bool.{Bool}
 use mathlib.Core.Logic.{⊎_elim}
 use mathlib.Core.List.{List, [], ◌∷◌, ◌++◌, map, append_assoc, append-nil, map-append}
 use Prim.Native.Nat.{ℕ, zero, suc, ◌+◌, ◌-◌, ◌<◌, ◌≤◌}
@@ -9,10 +9,10 @@ use native.Mathlib.Numerals.{add-one}
 use native.Mathlib.Nat.{not-suc-le-zero, le_of_suc-le-suc, eq-or-lt_of_le, add-zero, sub-zero}
 use native.Mathlib.Omega.{arith}
 use lib.ListN.{length, set, take, drop, replicate, get_or, length-append, length-map, length-replicate, get_or-append, get_or-map}
-use lib.Seq.{take-length, take-suc, take_all, length-take-le, drop-cons, drop-length, set_at, get_or-append-add, get_or-take}
+use lib.Seq.{take-suc, take_all, length-take-le, drop-cons, drop-length, set_at, get_or-append-add, get_or-take}
 use lib.Dec.{T}
 use mir.Facts.{and_yes}
-use Rattle.laws.specs.Lists.{list_to, pad, any_of, all_of}
+use Rattle.laws.specs.Lists.{list_to, pad, all_of}
 
 module _ {A : Type 0} where
   pub pad_push : (z : A) (cap : ℕ) (xs : List A) (a : A) (n : ℕ) → length xs ≡ n → n < cap → set (pad z cap xs) n a ≡ pad z cap (xs ++ (a ∷ []))
@@ -57,23 +57,6 @@ module _ {A : Type 0} where
   get_d_any (x ∷ xs) (suc i) d e h = get_d_any xs i d e (le_of_suc-le-suc h)
 
 module _ {A : Type 0} (p : A → Bool) where
-  pub any_none : (xs : List A) → any_of p (take 0 xs) ≡ false
-  unfolding any_of
-  any_none xs = refl
-
-  -- one entry more is tested
-  any_suc : (xs : List A) (i : ℕ) (d : A) → i < length xs → any_of p (take (suc i) xs) ≡ (any_of p (take i xs) || p (get_or xs i d))
-  unfolding any_of
-  any_suc [] i d h = absurd (not-suc-le-zero h)
-  any_suc (x ∷ xs) zero d h = or-false (p x)
-  any_suc (x ∷ xs) (suc i) d h = ap (λ (b : Bool). p x || b) (any_suc xs i d (le_of_suc-le-suc h)) ∙ sym (or_assoc (p x) (any_of p (take i xs)) (p (get_or xs i d)))
-
-  pub any_on : (xs : List A) (i : ℕ) (d : A) → i < length xs → any_of p (take (i + 1) xs) ≡ (any_of p (take i xs) || p (get_or xs i d))
-  any_on xs i d h = rw (add-one i) (any_suc xs i d h)
-
-  pub any_all : (xs : List A) (i : ℕ) → i ≡ length xs → any_of p (take i xs) ≡ any_of p xs
-  any_all xs i e = rw (e, take-length xs)
-
   -- past the end stands d
   pub all_at : (d : A) → T (p d) → (xs : List A) → T (all_of p xs) → (i : ℕ) → T (p (get_or xs i d))
   unfolding all_of

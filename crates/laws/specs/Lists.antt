@@ -1,5 +1,5 @@
 -- Words for lists. Definitions only.
-use Rattle.std.specs.Prelude.{Bool, true, false, ◌&&◌, ◌||◌, cond, ℕ, zero, suc, ◌+◌, ◌-◌, length, replicate, take, drop}
+use Rattle.std.specs.Prelude.{Bool, true, ◌&&◌, cond, ℕ, zero, suc, ◌+◌, ◌-◌, length, replicate, take, drop}
 use mathlib.Core.List.{List, [], ◌∷◌, ◌++◌}
 
 module _ {A : Type 0} where
@@ -15,11 +15,6 @@ module _ {A : Type 0} where
   -- vs in place of what stood from `at` on
   unfoldable pub splice : List A → ℕ → List A → List A
   splice xs at vs = take at xs ++ (vs ++ drop (at + length vs) xs)
-
-  -- p holds of some entry (the library's `any` does not unfold)
-  unfoldable pub any_of : (A → Bool) → List A → Bool
-  any_of p [] = false
-  any_of p (x ∷ xs) = p x || any_of p xs
 
   -- p holds of every entry
   unfoldable pub all_of : (A → Bool) → List A → Bool

@@ -5,28 +5,15 @@ ghost use Rattle.streams.specs.Draw.{picked_of, pick_of, chance_of, coin_of};
 use crate::float::truncated;
 use crate::stream::{Draw, NoiseStream};
 
-// n, or 2^24 where n is more: up to there an f32 has every whole number.
-fn exact(n: u32) -> u32
-    ensures value { result ≡ min n (2 ^ 24) }
-    ensures upper_bound { result ≤ 2 ^ 24 }
-{
-    if n < 16777216 { n } else { 16777216 }
-}
-
 // Which of n parts of equal width the unit u falls in: u * n rounded, truncated, at most n - 1; 0 where
 // n is 0. More than 2^24 parts count as 2^24.
 pub fn part(u: f32, n: u32) -> u32
     ensures { result ≡ picked_of u (min n (2 ^ 24)) }
 {
-    let parts = exact(n);
+    // up to 2^24 an f32 has every whole number
+    let parts = n.min(16777216);
     let t = truncated(u * (parts as f32));
-    if t < parts as u64 {
-        t as u32
-    } else if parts == 0 {
-        0
-    } else {
-        parts - 1
-    }
+    t.min(parts.saturating_sub(1) as u64) as u32
 }
 
 // A pick of n by a unit in hand: below n, 0 where n is 0.

@@ -1,22 +1,18 @@
--- A sound form's parts are its bars, and each of its bars is found and no other; a span filled bar by bar. Assumes nothing.
-use mathlib.Core.Path.{◌≡◌, sym, ap, ◌∙◌}
+-- A sound form's parts are its bars, and each of its bars is found and no other. Assumes nothing.
+use mathlib.Core.Path.{◌≡◌}
 use mathlib.Core.Bool.{true, and-eq-true_iff}
-use mathlib.Core.List.{List}
-use Prim.Native.Nat.{ℕ, ◌+◌, ◌≤◌, ◌<◌}
-use Rattle.std.proofs.Common.{Err}
+use Prim.Native.Nat.{ℕ, ◌≤◌, ◌<◌}
 use native.Mathlib.Omega.{arith}
 use borrow.Author.Tests.{eqb-true, leb-true, le-leb, lt-leb}
 use lib.Dec.{eqb, leb}
-use lib.ListN.{length, set, get_or, replicate, length-replicate, replicate-append-replicate}
-use Rattle.laws.specs.Lists.{splice}
-use Rattle.laws.proofs.Splices.{splice_push}
+use lib.ListN.{get_or}
+use Rattle.std.proofs.Common.{Err}
 use Rattle.composer.specs.Refusal.{Gives, answered}
 use Rattle.composer.specs.Form.{parts_of}
-use Rattle.composer.specs.Form.Plays.{all, silent}
-use Rattle.composer.specs.Form.Ask.{sound_of, plays_of, filled}
+use Rattle.composer.specs.Form.Plays.{silent}
+use Rattle.composer.specs.Form.Ask.{sound_of, plays_of}
 use Rattle.composer.specs.declared.refusal.Refusal.{Refusal}
 use Rattle.composer.specs.declared.form.Form.{Form}
-use Rattle.composer.specs.declared.form.plays.Plays.{Plays}
 
 pub sound_is : (f : Form) → sound_of f ≡ true → (parts_of f ≡ f.bars) × (parts_of f ≤ 64)
 unfolding sound_of
@@ -36,9 +32,3 @@ plays_found f sound b h = rw (sound, lt-leb f.bars b h)
 pub plays_past : (f : Form) → sound_of f ≡ true → (b : ℕ) → f.bars ≤ b → plays_of f b ≡ Err Refusal.NoSuchBar
 unfolding plays_of
 plays_past f sound b h = rw (sound, le-leb f.bars b h)
-
--- one more bar of a span
-pub fill_step : (ps : List Plays) (a i : ℕ) → a + i < length ps → set (filled ps a i) (a + i) all ≡ filled ps a (i + 1)
-fill_step ps a i h =
-    let e = length-replicate i all in
-    ap (λ (k : ℕ). set (filled ps a i) (a + k) all) (sym e) ∙ splice_push ps a (replicate i all) all (omega (arith, e)) ∙ ap (splice ps a) (replicate-append-replicate i 1 all)

@@ -10,6 +10,8 @@ use mir.Facts.{and_yes}
 use Rattle.laws.specs.Runs.{lacking}
 use Rattle.laws.proofs.Bools.{or_map, contra}
 use Rattle.laws.proofs.Runs.{every, every_at, windows, windows_among, runs_at_most}
+use denote.Enum.Bare.{sameb}
+use Rattle.composer.specs.contracts.form.decisions.Thinning.{the_type}
 use Rattle.composer.specs.Form.Body.{is_break, low_thinning, thins, no_cut, cut_at, may_cut, cut_heard, cut_takes, late_drop, drums_out, bass_out, body_bar_of}
 use Rattle.composer.specs.Form.Promise.{BodyPromise}
 use Rattle.composer.specs.declared.form.decisions.Opening.{Opening}
@@ -18,6 +20,12 @@ use Rattle.composer.specs.declared.form.decisions.Thinning.{Thinning}
 use Rattle.composer.specs.declared.form.decisions.Cut.{Cut}
 use Rattle.composer.specs.declared.form.decisions.Decisions.{Decisions}
 use Rattle.composer.proofs.form.PromiseLaws.{promise_more}
+
+-- what the code's test of a thinning says
+pub break_test : (t : Thinning) → sameb the_type t Thinning.Break ≡ is_break t
+break_test Thinning.Break = refl
+break_test Thinning.BassDrop = refl
+break_test Thinning.Steady = refl
 
 abbrev long_cut : Cut
 long_cut = record { on = true; bars = 3; low = true }

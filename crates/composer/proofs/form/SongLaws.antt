@@ -1,12 +1,16 @@
 -- An arranged form is sound: its parts are its bars, 64 at most; and its bars are the song's. Assumes nothing.
 use mathlib.Core.Path.{◌≡◌, refl, sym, ap, ◌∙◌}
 use mathlib.Core.Bool.{true, not, ◌&&◌, and_assoc}
-use Prim.Native.Nat.{ℕ, ◌+◌, ◌-◌, ◌*◌, ◌/◌, ◌%◌, ◌≤◌, ◌<◌}
+use Prim.Native.Nat.{ℕ, zero, suc, ◌+◌, ◌-◌, ◌*◌, ◌/◌, ◌%◌, ◌≤◌, ◌<◌}
 use native.Mathlib.Omega.{arith}
 use borrow.Author.Tests.{lt-ltb, le-ltb, eq-eqb, le-leb}
 use lib.Dec.{leb, eqb}
-use lib.ListN.{length, get_or}
-use Rattle.laws.specs.Lists.{list_to}
+use mathlib.Core.List.{◌++◌}
+use native.Mathlib.Numerals.{add-one}
+use native.Mathlib.Nat.{le_refl}
+use lib.ListN.{length, get_or, drop, replicate, length-replicate, replicate-append-replicate}
+use Rattle.std.proofs.lemmas.List.{drop-replicate}
+use Rattle.laws.specs.Lists.{list_to, pad}
 use Rattle.laws.proofs.Lists.{length_pad, pad_at_lem, list_to_at, length_list_to}
 use Rattle.streams.specs.Stream.{unit_at}
 use Rattle.streams.specs.Stage.{stream_of}
@@ -14,7 +18,7 @@ use Rattle.streams.specs.declared.stage.Stage.{Stage}
 use Rattle.composer.specs.Form.Plays.{silent}
 use Rattle.composer.specs.Form.Decisions.{decide_of}
 use Rattle.composer.specs.Form.Body.{low_thinning, cut_at, body_bar_of, phrase_of, phrase_bar_of}
-use Rattle.composer.specs.Form.Song.{intro_of, intro_plays, outro_of, outro_plays, intro_length, song_length, song_bar_of, form_of, decisions_of, arrange_of}
+use Rattle.composer.specs.Form.Song.{intro_of, intro_plays, outro_of, outro_plays, intro_length, song_length, song_bar_of, song_plays_of, form_of, decisions_of, arrange_of}
 use Rattle.composer.specs.Form.Ask.{sound_of}
 use Rattle.composer.specs.declared.form.decisions.Decisions.{Decisions}
 use Rattle.composer.proofs.form.AskLaws.{sound_bars}
@@ -68,6 +72,16 @@ module _ (d : Decisions) where
   pub in_intro : (n b : ℕ) → b < n → intro_plays d.opening ≡ song_bar_of d n b
   unfolding song_bar_of
   in_intro n b h = rw (lt-ltb b n h)
+
+  intro_first : (n k : ℕ) → k ≤ n → list_to (song_bar_of d n) k ≡ replicate k (intro_plays d.opening)
+  unfolding list_to
+  intro_first n zero h = refl
+  intro_first n (suc k) h =
+      rw (intro_first n k (omega arith), ← in_intro n k h, replicate-append-replicate k 1 (intro_plays d.opening), add-one)
+
+  pub intro_stands : (n : ℕ) → n ≤ 64 → replicate n (intro_plays d.opening) ++ drop n (replicate 64 silent) ≡ song_plays_of d n n
+  unfolding pad
+  intro_stands n h = rw (intro_first n n (le_refl n), length-replicate n (intro_plays d.opening), drop-replicate)
 
   phrase_bar : (p i : ℕ) → i < 8 → phrase_bar_of (phrase_of d p) i ≡ body_bar_of d (8 * p + i)
   unfolding body_bar_of phrase_of phrase_bar_of

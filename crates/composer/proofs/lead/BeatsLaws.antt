@@ -1,20 +1,19 @@
 -- Beats in an array are a list: it comes back, grows by one, loses one, and is written and thinned by a loop. Assumes nothing.
 use mathlib.Core.Path.{◌≡◌, refl, sym, ap, subst, ◌∙◌}
 use mathlib.Core.Bool.{Bool, true, false, cond}
-use mathlib.Core.List.{List, [], ◌∷◌, ◌++◌, append-nil}
+use mathlib.Core.List.{List, [], ◌∷◌, ◌++◌, append-nil, append_assoc}
 use Prim.Native.Nat.{ℕ, zero, suc, ◌+◌, ◌-◌, ◌<◌, ◌≤◌}
 use native.Mathlib.Numerals.{add-one}
 use native.Mathlib.Nat.{not-suc-le-zero, le_of_suc-le-suc}
 use native.Mathlib.Omega.{arith}
-use lib.Dec.{ltb}
-use lib.ListN.{length, take, get_or, set, replicate, length-append}
-use lib.Seq.{take_at, take-suc, set_out, get_or-take, length-take-le, ext_get_or}
+use lib.ListN.{length, take, drop, get_or, set, replicate, length-append}
+use lib.Seq.{take_at, drop_at, take-suc, set_out, get_or-take, length-take-le}
+use Rattle.std.proofs.lemmas.List.{take-take, drop-take, drop-drop, drop-replicate}
 use lib.Ieee.{Float, nan}
-use borrow.Author.Tests.{ltb-true, ltb-false}
-use Rattle.laws.specs.Lists.{list_to, pad}
-use Rattle.laws.proofs.Lists.{pad_push, length_list_to, list_to_at}
+use Rattle.laws.specs.Lists.{pad}
+use Rattle.laws.proofs.Lists.{pad_push}
 use Rattle.composer.specs.Note.{zero32}
-use Rattle.composer.specs.Lead.Beats.{past_beats, beats_of, list_of, add_of, without, left_at, near_of, more_of, thin_of}
+use Rattle.composer.specs.Lead.Beats.{past_beats, beats_of, list_of, add_of, without, near_of, more_of, thin_of}
 use Rattle.composer.specs.declared.lead.beats.Beats.{Beats}
 use Rattle.composer.proofs.lead.SettleLaws.{none_near}
 use Rattle.laws.proofs.Written.{Written, rest_is, written_none, written_over, written_more, written_list}
@@ -35,38 +34,34 @@ length_without k [] h = absurd (not-suc-le-zero h)
 length_without zero (x ∷ xs) h = refl
 length_without (suc k) (x ∷ xs) h = ap suc (length_without k xs (le_of_suc-le-suc h))
 
-without_before : (k : ℕ) (xs : List Float) (i : ℕ) (d : Float) → i < k → get_or (without k xs) i d ≡ get_or xs i d
+without_is : (k : ℕ) (xs : List Float) → k < length xs → without k xs ≡ take k xs ++ drop (suc k) xs
 unfolding without
-without_before k [] i d h = refl
-without_before zero (x ∷ xs) i d h = absurd (not-suc-le-zero h)
-without_before (suc k) (x ∷ xs) zero d h = refl
-without_before (suc k) (x ∷ xs) (suc i) d h = without_before k xs i d (le_of_suc-le-suc h)
+without_is k [] h = absurd (not-suc-le-zero h)
+without_is zero (x ∷ xs) h = refl
+without_is (suc k) (x ∷ xs) h = ap (λ (ys : List Float). x ∷ ys) (without_is k xs (le_of_suc-le-suc h))
 
-without_after : (k : ℕ) (xs : List Float) (i : ℕ) (d : Float) → k ≤ i → get_or (without k xs) i d ≡ get_or xs (suc i) d
-unfolding without
-without_after k [] i d h = refl
-without_after zero (x ∷ xs) i d h = refl
-without_after (suc k) (x ∷ xs) zero d h = absurd (not-suc-le-zero h)
-without_after (suc k) (x ∷ xs) (suc i) d h = without_after k xs i d (le_of_suc-le-suc h)
+-- those before it and those after it, copied over zeros
+module _ (a : List Float) (k n : ℕ) (h : k < n) (size : length a ≡ 7) (few : n ≤ 7) where
+  without_copied : without k (take n a) ≡ take k a ++ take (n - (k + 1)) (drop (k + 1) a)
+  without_copied =
+      let t : length (take n a) ≡ n = length-take-le n a (omega arith) in
+      let e : n ≡ k + 1 + (n - (k + 1)) = omega arith in
+      rw (without_is k (take n a) (omega arith), take-take k n a (omega arith), ← add-one k)
+      (ap (λ (m : ℕ). take k a ++ drop (k + 1) (take m a)) e ∙ ap (λ (ys : List Float). take k a ++ ys) (drop-take (k + 1) (n - (k + 1)) a))
 
-module _ (a : List Float) (k n : ℕ) (h : k < n) (l : n ≤ length a) where
-  left_is_at : (i : ℕ) → i < n - 1 → left_at a k i ≡ get_or (without k (take n a)) i nan
-  left_is_at i p = go (ltb i k) refl
-    where
-      go : (t : Bool) → ltb i k ≡ t → cond t (get_or a i nan) (get_or a (i + 1) nan) ≡ get_or (without k (take n a)) i nan
-      go true e = let g = ltb-true i k e in sym (without_before k (take n a) i nan g ∙ get_or-take n a i nan (omega arith))
-      go false e = let g = ltb-false i k e in rw (add-one i) (sym (without_after k (take n a) i nan g ∙ get_or-take n a (suc i) nan (omega arith)))
+  pub length_left : length (without k (take n a)) ≡ n - 1
+  length_left =
+      let t : length (take n a) ≡ n = length-take-le n a (omega arith) in
+      omega (arith, length_without k (take n a) (omega arith))
 
-  -- what a loop over the places gives
-  pub left_is : list_to (left_at a k) (n - 1) ≡ without k (take n a)
-  left_is =
-      let t : length (take n a) ≡ n = length-take-le n a l in
-      let w : suc (length (without k (take n a))) ≡ length (take n a) = length_without k (take n a) (omega arith) in
-      let m : length (list_to (left_at a k) (n - 1)) ≡ n - 1 = length_list_to (left_at a k) (n - 1) in
-      ext_get_or nan (list_to (left_at a k) (n - 1)) (without k (take n a)) (omega arith)
-      (λ (i : ℕ) (p : i < length (list_to (left_at a k) (n - 1))).
-      let q : i < n - 1 = omega arith in
-      list_to_at (left_at a k) nan (n - 1) i q ∙ left_is_at i q)
+  pub copied : (zs : List Float) → zs ≡ take k a ++ drop k (replicate 7 zero32)
+      → take k zs ++ (take (n - (k + 1)) (drop (k + 1) a) ++ drop (n - 1 - k) (drop k zs)) ≡ pad zero32 7 (without k (take n a))
+  unfolding pad
+  copied zs e =
+      let t : length (take k a) ≡ k = length-take-le k a (omega arith) in
+      let m : k + (n - 1 - k) ≡ n - 1 = omega arith in
+      rw (e, take_at (take k a) (drop k (replicate 7 zero32)) k t, drop_at (take k a) (drop k (replicate 7 zero32)) k t, drop-drop (n - 1 - k) k (replicate 7 zero32), m, length_left, drop-replicate (n - 1) 7 zero32, without_copied)
+      (sym (append_assoc (take k a) (take (n - (k + 1)) (drop (k + 1) a)) (replicate (7 - (n - 1)) zero32)))
 
 -- ---- behind the beats
 pub rest_zero : (xs : List Float) (i : ℕ) → length xs ≤ i → i < 7 → get_or (beats_of xs).at i nan ≡ zero32

@@ -101,10 +101,6 @@ pub moved_in : (up : Bool) (n space : ℕ) {m : ℕ} → m ≡ moved_of up n →
 moved_in true n space e h a b = (omega arith, omega arith)
 moved_in false n space e h a b = (omega arith, omega arith)
 
-pub room_in : (up : Bool) (lo hi n : ℕ) {m : ℕ} → m ≡ room_of up lo hi n → lo ≤ n → n ≤ hi → m ≤ hi - lo
-room_in true lo hi n e a b = omega arith
-room_in false lo hi n e a b = omega arith
-
 pub walk_in : (pool : List Bool) (up : Bool) (lo hi n space steps : ℕ) → lo ≤ n → n ≤ hi → space ≤ room_of up lo hi n
     → (lo ≤ walk_of pool up n space steps) × (walk_of pool up n space steps ≤ hi)
 unfolding walk_of

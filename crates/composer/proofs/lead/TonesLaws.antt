@@ -10,6 +10,8 @@ use mir.Val.{bool_byte}
 use lib.Dec.{leb, ltb, eqb}
 use lib.ListN.{length, get_or, take, drop, set, replicate, drop_of_length-le, length-append, length-set, get_or-replicate}
 use lib.Seq.{drop-cons, take-suc, take_at, get_or-set_same, get_or-set_other}
+use Rattle.std.specs.List.{fold}
+use Rattle.std.proofs.lemmas.List.{take_all}
 use Rattle.laws.specs.Lists.{pad, filter_of}
 use Rattle.composer.specs.Chord.{root_class_of}
 use Rattle.composer.specs.Lead.Scale.{in_pool}
@@ -83,41 +85,36 @@ pub lowest_end : (lowest l : List ℕ) (i : ℕ) → length l ≤ i → lowest_f
 unfolding lowest_from
 lowest_end lowest l i h = rw (drop_of_length-le l h)
 
--- ---- the nearest
-pub near_first : (t : ℕ) (l : List ℕ) → 0 < length l → nearest_of l t ≡ closest t (get_or l 0 0) (drop 1 l)
-unfolding nearest_of
-near_first t [] h = absurd (omega arith)
-near_first t (x ∷ xs) h = refl
-
-pub near_next : (t best : ℕ) (l : List ℕ) (i : ℕ) → i < length l → closest t best (drop i l) ≡ closest t (closer_of t best (get_or l i 0)) (drop (i + 1) l)
-unfolding closest
-near_next t best l i h = rw (add-one, drop-cons l i 0)
-
-pub near_end : (t best : ℕ) (l : List ℕ) (i : ℕ) → length l ≤ i → closest t best (drop i l) ≡ best
-unfolding closest
-near_end t best l i h = rw (drop_of_length-le l h)
-
--- the rank holds the note in its lower byte, and the lower rank is the closer note's
-pub rank_note : (t x : ℕ) → x < 256 → rank_of t x % 256 ≡ x
-rank_note t x h = omega arith
-
-pub rank_first : (t x : ℕ) → x < 256 → rank_of t x ≡ rank_of t (rank_of t x % 256)
-rank_first t x h = rw (rank_note t x h)
-
-pub rank_next : (t best x : ℕ) → x < 256 → best ≡ rank_of t (best % 256)
-    → (min best (rank_of t x) % 256 ≡ closer_of t (best % 256) x) × (min best (rank_of t x) ≡ rank_of t (min best (rank_of t x) % 256))
-rank_next t best x h e = go (ltb (rank_of t x) best) refl
+-- ---- the nearest: the rank holds the note in its lower byte, and the lower rank is the closer note's
+closer_rank : (t best x : ℕ) → min (rank_of t best) (rank_of t x) ≡ rank_of t (closer_of t best x)
+closer_rank t best x = go (ltb (rank_of t x) (rank_of t best)) refl
   where
-    go : (b : Bool) → ltb (rank_of t x) best ≡ b
-        → (min best (rank_of t x) % 256 ≡ closer_of t (best % 256) x) × (min best (rank_of t x) ≡ rank_of t (min best (rank_of t x) % 256))
-    go true f =
-        let g = ltb-true (rank_of t x) best f in
-        let m : min best (rank_of t x) ≡ rank_of t x = omega arith in
-        (rw (m, ← e, f) (rank_note t x h), rw m (rank_first t x h))
-    go false f =
-        let g = ltb-false (rank_of t x) best f in
-        let m : min best (rank_of t x) ≡ best = omega arith in
-        (rw (m, ← e, f), rw m e)
+    go : (b : Bool) → ltb (rank_of t x) (rank_of t best) ≡ b → min (rank_of t best) (rank_of t x) ≡ rank_of t (cond b x best)
+    go true f = let g = ltb-true (rank_of t x) (rank_of t best) f in omega arith
+    go false f = let g = ltb-false (rank_of t x) (rank_of t best) f in omega arith
+
+closest_rank : (t best : ℕ) (xs : List ℕ) → fold (λ (b x : ℕ). min b (rank_of t x)) (rank_of t best) xs ≡ rank_of t (closest t best xs)
+unfolding closest
+closest_rank t best [] = refl
+closest_rank t best (x ∷ xs) = rw (closer_rank t best x) (closest_rank t (closer_of t best x) xs)
+
+closest_small : (t best : ℕ) (xs : List ℕ) → best < 256 → ((i : ℕ) → i < length xs → get_or xs i 0 < 256) → closest t best xs < 256
+unfolding closest
+closest_small t best [] h a = h
+closest_small t best (x ∷ xs) h a = closest_small t (closer_of t best x) xs (go (ltb (rank_of t x) (rank_of t best))) (λ i k. a (suc i) (omega arith))
+  where
+    go : (b : Bool) → cond b x best < 256
+    go true = a 0 (omega arith)
+    go false = h
+
+pub nearest_by_rank : (t : ℕ) (xs : List ℕ) → 0 < length xs → t < 256 → ((i : ℕ) → i < length xs → get_or xs i 0 < 256) → fold (λ (b x : ℕ). min b (rank_of t x)) 65535 xs % 256 ≡ nearest_of xs t
+unfolding nearest_of
+nearest_by_rank t [] h s a = absurd (omega arith)
+nearest_by_rank t (x ∷ xs) h s a =
+    let low : x < 256 = a 0 (omega arith) in
+    let few : min 65535 (rank_of t x) ≡ rank_of t x = omega arith in
+    let small = closest_small t x xs low (λ i k. a (suc i) (omega arith)) in
+    rw (few, closest_rank t x xs) (omega arith)
 
 -- ---- the tones: what an array and a count hold of those below x
 grown : (passes : ℕ → Bool) (lo x : ℕ) → lo ≤ x → kept passes lo (x + 1 - lo) ≡ kept passes lo (x - lo) ++ one (passes x) x
@@ -164,8 +161,8 @@ module _ (p : ℕ → Bool) where
       → Written 0 20 (filter_of p (take (i + 1) all)) (set at n (get_or all i 0)) (n + bool_byte b)
   chosen_on all i at n b h room e w = rw (filter_on all i b h (sym e)) (written_one b (filter_of p (take i all)) at n (get_or all i 0) room w)
 
-  pub chosen_all : (t : Tones) (i : ℕ) (at : List ℕ) (n : ℕ) → i ≡ t.n → Written 0 20 (filter_of p (take i t.at)) at n → cleared_of at n ≡ packed (filter_of p (listed t))
-  chosen_all t i at n e w = tones_written (filter_of p (take i t.at)) at n w ∙ ap (λ (k : ℕ). packed (filter_of p (take k t.at))) e
+  pub chosen_all : (all : List ℕ) (i : ℕ) (at : List ℕ) (n : ℕ) → length all ≤ i → Written 0 20 (filter_of p (take i all)) at n → cleared_of at n ≡ packed (filter_of p all)
+  chosen_all all i at n h w = tones_written (filter_of p (take i all)) at n w ∙ ap (λ (xs : List ℕ). packed (filter_of p xs)) (take_all i all h)
 
   -- what is kept and then filtered passes both
   filter_kept : (q : ℕ → Bool) (lo k : ℕ) → filter_of p (kept q lo k) ≡ kept (λ n. q n && p n) lo k

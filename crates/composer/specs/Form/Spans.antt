@@ -1,6 +1,6 @@
 -- Whether songs span a form. Definitions only.
 use Rattle.std.specs.Prelude.{Bool, not, ◌&&◌, ◌||◌, cond, List, ℕ, take}
-use Rattle.laws.specs.Lists.{any_of}
+use Rattle.std.specs.List.{list_any}
 use Rattle.composer.specs.Form.Ends.{end_edged_of, outro_edged_of}
 use Rattle.composer.specs.Form.Song.{arrange_of}
 use Rattle.composer.specs.declared.form.Form.{Form}
@@ -12,7 +12,7 @@ abbrev pub mutes : Plays → Bool
 mutes p = not (p.pad && p.keys && p.drums && p.bass)
 
 abbrev pub mutes_in : List Plays → ℕ → Bool
-mutes_in ps n = any_of mutes (take n ps)
+mutes_in ps n = list_any mutes (take n ps)
 
 abbrev pub mutes_any : ℕ → Bool
 mutes_any seed = mutes_in (arrange_of seed).plays (arrange_of seed).bars
@@ -28,7 +28,7 @@ abbrev pub spans_by : Bool → Bool → SpansAnswer
 spans_by mutes moves = cond mutes (cond moves SpansAnswer.Spans SpansAnswer.NoneMoves) SpansAnswer.NoneMutes
 
 unfoldable pub spans_of : List ℕ → SpansAnswer
-spans_of seeds = spans_by (any_of mutes_any seeds) (any_of moves_any seeds)
+spans_of seeds = spans_by (list_any mutes_any seeds) (list_any moves_any seeds)
 
 -- an answer as document 01 has it
 abbrev pub spans_number_of : SpansAnswer → ℕ

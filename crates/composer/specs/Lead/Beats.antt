@@ -1,5 +1,5 @@
 -- A bar's beats in an array: one more, one less, and settled. Definitions only.
-use Rattle.std.specs.Prelude.{Bool, cond, List, [], ◌∷◌, ℕ, zero, suc, ◌+◌, ltb, length, take, set, get_or, Float}
+use Rattle.std.specs.Prelude.{Bool, cond, List, [], ◌∷◌, ℕ, zero, suc, ◌+◌, length, take, set, Float}
 use Rattle.std.specs.Float.{nan, binary32}
 use Rattle.std.specs.Float.Ieee.{of_bits, lt, neg, sub}
 use Rattle.laws.specs.Lists.{pad}
@@ -27,9 +27,6 @@ unfoldable pub without : ℕ → List Float → List Float
 without k [] = []
 without zero (x ∷ xs) = xs
 without (suc k) (x ∷ xs) = x ∷ without k xs
-
-abbrev pub left_at : List Float → ℕ → ℕ → Float
-left_at xs k i = cond (ltb i k) (get_or xs i nan) (get_or xs (i + 1) nan)
 
 abbrev pub remove_of : Beats → ℕ → Beats
 remove_of b k = beats_of (without k (list_of b))

@@ -18,9 +18,6 @@ use Rattle.composer.specs.declared.lead.ground.Ground.{Ground}
 abbrev pub pitched : ℕ → NoiseStream → Draw ℕ
 pitched note s = record { value = note; stream = s }
 
-abbrev pub lower_of : ℕ → ℕ → ℕ
-lower_of x hi = min x hi
-
 abbrev pub held_of : ℕ → ℕ → ℕ → ℕ
 held_of x lo hi = max lo (min x hi)
 
@@ -38,7 +35,7 @@ close_note_of g first = near_of g.tones first
 unfoldable pub peak_note_of : NoiseStream → Ground → ℕ → Draw ℕ
 peak_note_of s g prev =
     let p = pick_of s 3 in
-    pitched (near_of g.strong (lower_of (prev + 3 + p.value) g.hi)) p.stream
+    pitched (near_of g.strong (min (prev + 3 + p.value) g.hi)) p.stream
 
 -- against the leap
 abbrev pub resolve_note_of : List Bool → Ground → ℕ → ℕ → ℕ

@@ -88,9 +88,9 @@ pub(crate) fn bass_rhythms(s: NoiseStream) -> Draw<[Steps; 8]>
     };
     let mut bars = [z; 8];
     let mut stream = s;
-    for b in 0..8usize {
+    for bar in &mut bars {
         let d = bass_rhythm(stream);
-        bars[b] = d.value;
+        *bar = d.value;
         stream = d.stream;
     }
     Draw {

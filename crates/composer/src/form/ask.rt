@@ -40,11 +40,8 @@ fn fill(plays: [Plays; 64], a: u8, n: u16) -> [Plays; 64]
     ensures { result ≡ filled plays a n }
 {
     let mut out = plays;
-    let mut i: u16 = 0;
-    while i < n {
-        out[(a as u16 + i) as usize] = ALL;
-        i += 1;
-    }
+    let from = a as usize;
+    out[from..from + n as usize].fill(ALL);
     out
 }
 

@@ -1,6 +1,6 @@
 // The body's bars: the thinning, the cuts and the late bass drop take layers away.
 ghost use Rattle.std.specs.Prelude.{◌≡◌, ◌<◌, ◌≤◌};
-ghost use Rattle.composer.specs.Form.Body.{is_break, takes_bass, cut_at, cut_heard, phrase_of, phrase_bar_of};
+ghost use Rattle.composer.specs.Form.Body.{takes_bass, cut_at, cut_heard, phrase_of, phrase_bar_of};
 
 use crate::form::decisions::{Cut, Decisions, Thinning};
 use crate::form::plays::Plays;
@@ -22,16 +22,6 @@ pub struct Phrase {
     pub late_drop: bool,
 }
 
-fn is_break(t: Thinning) -> bool
-    ensures { result ≡ is_break t }
-{
-    match t {
-        Thinning::Break => true,
-        Thinning::BassDrop => false,
-        Thinning::Steady => false,
-    }
-}
-
 // Whether the thinning mutes the bass.
 fn takes_bass(t: Thinning, low: bool) -> bool
     ensures { result ≡ takes_bass t low }
@@ -51,7 +41,7 @@ pub(crate) fn cut_heard(d: Decisions, cut: Cut, p: u8) -> bool
 {
     let t = d.thinning;
     let thin = d.phrases / 2;
-    let before_break = (p + 1 == thin) & (is_break(t) & d.whole);
+    let before_break = (p + 1 == thin) & ((t == Thinning::Break) & d.whole);
     let inside = (1 <= p) & (p + 2 <= d.phrases);
     (d.cutting & cut.on) & (inside & ((p != thin) & !before_break))
 }
@@ -62,7 +52,7 @@ pub(crate) fn phrase_of(d: Decisions, cut: Cut, p: u8) -> Phrase
     ensures { result ≡ phrase_of d p }
 {
     let t = d.thinning;
-    let breaks = is_break(t);
+    let breaks = t == Thinning::Break;
     let low = takes_bass(t, d.low_with_break);
     let heard = cut_heard(d, cut, p);
     Phrase {

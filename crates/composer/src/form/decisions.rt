@@ -30,7 +30,7 @@ pub enum Closing {
 }
 
 // What drops out in the body's middle phrase.
-#[derive(Clone, Copy)]
+#[derive(Clone, Copy, PartialEq, Eq, Debug)]
 pub enum Thinning {
     Break,
     BassDrop,
@@ -206,9 +206,9 @@ fn draw_all(s: NoiseStream) -> Draw<[f32; 29]>
 {
     let mut values = [0.0f32; 29];
     let mut stream = s;
-    for i in 0..29usize {
+    for value in &mut values {
         let d = stream.unit();
-        values[i] = d.value;
+        *value = d.value;
         stream = d.stream;
     }
     Draw {

@@ -3,28 +3,28 @@ ghost use Rattle.std.specs.Prelude.{◌≡◌};
 ghost use Rattle.composer.specs.Form.Ends.{count_of, edge_code_of, end_bars_of, end_edged_of, end_plain_of, end_code_of, outro_length_of, outro_edged_of, outro_plain_of, outro_code_of};
 
 // The bars of an intro or outro that has some.
-#[derive(Clone, Copy)]
+#[derive(Clone, Copy, PartialEq, Eq, Debug)]
 pub enum Bars {
     Four,
     Eight,
 }
 
 // How the music's level or colour moves over an intro or outro.
-#[derive(Clone, Copy)]
+#[derive(Clone, Copy, PartialEq, Eq, Debug)]
 pub enum Edge {
     Fade,
     Filter,
 }
 
 // An intro, or an outro that does not ring out.
-#[derive(Clone, Copy)]
+#[derive(Clone, Copy, PartialEq, Eq, Debug)]
 pub enum End {
     Cold,
     Plain(Bars),
     Edged(Bars, Edge),
 }
 
-#[derive(Clone, Copy)]
+#[derive(Clone, Copy, PartialEq, Eq, Debug)]
 pub enum Outro {
     Ends(End),
     // the pad's chord, then a bar of the room alone

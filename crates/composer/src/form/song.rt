@@ -71,28 +71,21 @@ fn song_plays(d: Decisions, n: u8, bars: u8) -> [Plays; 64]
     ensures { result ≡ song_plays_of d n bars }
 {
     let mut out = [SILENT; 64];
-    let mut b: u8 = 0;
-    let o = d.opening;
-    let intro = intro_plays(o);
-    while b < n {
-        out[b as usize] = intro;
-        b += 1;
-    }
+    let intro = intro_plays(d.opening);
+    out[..n as usize].fill(intro);
     // taken out before the loop: an index into d's array would copy it for each phrase
     let cuts = d.cuts;
     for p in 0..d.phrases {
         let cut = cuts[p as usize];
         let phrase = phrase_of(d, cut, p);
+        let first = n + 8 * p;
         for i in 0..8u8 {
-            out[b as usize] = phrase_bar(phrase, i);
-            b += 1;
+            out[(first + i) as usize] = phrase_bar(phrase, i);
         }
     }
-    let body = b;
-    while b < bars {
-        let c = d.closing;
-        out[b as usize] = outro_plays(c, b - body);
-        b += 1;
+    let body = n + 8 * d.phrases;
+    for b in body..bars {
+        out[b as usize] = outro_plays(d.closing, b - body);
     }
     out
 }

@@ -1,12 +1,11 @@
 // Whether songs span a form: some bar mutes a layer, and some edge or dip moves.
 ghost use Rattle.std.specs.Prelude.{◌≡◌, ◌≤◌};
-ghost use Rattle.composer.specs.Form.Spans.{mutes, mutes_in, edged_of, spans_by, spans_of, spans_number_of};
+ghost use Rattle.composer.specs.Form.Spans.{mutes_in, edged_of, spans_by, spans_of, spans_number_of};
 
 use crate::form::Form;
-use crate::form::plays::Plays;
 use crate::form::song::arrange;
 
-#[derive(Clone, Copy)]
+#[derive(Clone, Copy, PartialEq, Eq, Debug)]
 pub enum SpansAnswer {
     NoneMutes,
     NoneMoves,
@@ -26,19 +25,14 @@ impl SpansAnswer {
     }
 }
 
-// Whether one of the first n bars has a silent layer.
-fn mutes_any(plays: [Plays; 64], n: u8) -> bool
-    requires { n ≤ 64 }
-    ensures { result ≡ mutes_in plays n }
+// Whether one of the form's bars has a silent layer.
+fn mutes_any(f: &Form) -> bool
+    requires { f.now.bars ≤ 64 }
+    ensures { result ≡ mutes_in f.now.plays f.now.bars }
 {
-    let mut any = false;
-    let mut b: u8 = 0;
-    while b < n {
-        let p = plays[b as usize];
-        any = any | !(p.pad & p.keys & p.drums & p.bass);
-        b += 1;
-    }
-    any
+    f.plays[..f.bars as usize]
+        .iter()
+        .any(|p| !(p.pad & p.keys & p.drums & p.bass))
 }
 
 // Whether the form fades, filters or dips somewhere.
@@ -71,11 +65,10 @@ pub fn spans(seeds: &[u64]) -> SpansAnswer
 {
     let mut mutes = false;
     let mut moves = false;
-    for i in 0..seeds.len() {
-        let f = arrange(seeds[i]);
-        let plays = f.plays;
-        mutes = mutes | mutes_any(plays, f.bars);
-        moves = moves | edged(f);
+    for &seed in seeds {
+        let f = arrange(seed);
+        mutes |= mutes_any(&f);
+        moves |= edged(f);
     }
     spans_by(mutes, moves)
 }

@@ -1,6 +1,6 @@
 // A bar of the answer: a statement bar's beats, shifted, pushed, one of them dropped, and settled.
 ghost use Rattle.std.specs.Prelude.{◌≡◌, ◌≤◌};
-ghost use Rattle.composer.specs.Lead.Answer.{either_way_of, clamp_of, shift_of, varied_of, drop_one_of, answer_bar_of};
+ghost use Rattle.composer.specs.Lead.Answer.{either_way_of, shift_of, varied_of, drop_one_of, answer_bar_of};
 
 use crate::lead::beats::{Beats, remove, settle};
 use crate::lead::grid::grid_beat;
@@ -22,27 +22,20 @@ fn either_way(up: bool) -> f32
     if up { EIGHTH_BEATS } else { -EIGHTH_BEATS }
 }
 
-// A beat held between the ends of the grid.
-fn clamp(x: f32) -> f32
-    ensures { result ≡ clamp_of x }
-{
-    let first = grid_beat(0);
-    let last = grid_beat(6);
-    if x < first {
-        return first;
-    }
-    if last < x { last } else { x }
-}
-
 // A beat that may shift an eighth either way.
 fn shift(s: NoiseStream, beat: f32) -> Draw<f32>
     ensures { result ≡ shift_of s beat }
 {
     let shifts = chance(s, SHIFT_P);
-    if shifts.value {
-        coin(shifts.stream).map(|up| clamp(beat + either_way(up)))
-    } else {
-        shifts.map(|_| beat)
+    if !shifts.value {
+        return shifts.map(|_| beat);
+    }
+    let up = coin(shifts.stream);
+    // held between the ends of the grid
+    let moved = (beat + either_way(up.value)).clamp(grid_beat(0), grid_beat(6));
+    Draw {
+        value: moved,
+        stream: up.stream,
     }
 }
 

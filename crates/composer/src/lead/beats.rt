@@ -1,7 +1,7 @@
 // A bar's beats in an array.
 ghost use Rattle.std.specs.Prelude.{◌≡◌, ◌<◌, ◌≤◌, length, take};
 ghost use Rattle.std.specs.Float.{nan};
-ghost use Rattle.composer.specs.Lead.Beats.{beats_of, left_at, remove_of, size_of, near_of, more_of, thin_of, settled};
+ghost use Rattle.composer.specs.Lead.Beats.{beats_of, remove_of, size_of, near_of, more_of, thin_of, settled};
 
 use crate::sort::sort_front;
 
@@ -21,14 +21,6 @@ pub(crate) const NO_BEATS: Beats = Beats {
     n: 0,
 };
 
-// The beat that stands at i once the one at k has gone.
-fn left_at(at: [f32; 7], k: usize, i: usize) -> f32
-    requires { i < 6 }
-    ensures { result ≡ left_at at k i }
-{
-    if i < k { at[i] } else { at[i + 1] }
-}
-
 // All but the beat at k; the later ones move down.
 pub(crate) fn remove(b: Beats, k: usize) -> Beats
     requires { (k < b.n) × (b.n ≤ 7) }
@@ -36,11 +28,9 @@ pub(crate) fn remove(b: Beats, k: usize) -> Beats
     ensures n_bound { result.n ≤ 7 }
 {
     let n = b.n - 1;
-    let from = b.at;
     let mut at = [0.0f32; 7];
-    for i in 0..n {
-        at[i] = left_at(from, k, i);
-    }
+    at[..k].copy_from_slice(&b.at[..k]);
+    at[k..n].copy_from_slice(&b.at[k + 1..b.n]);
     Beats { at: at, n: n }
 }
 
@@ -79,9 +69,8 @@ fn thinned(a: &[f32], n: usize) -> Beats
     }
     at[0] = a[0];
     let mut m: usize = 1;
-    for i in 1..n {
+    for &x in &a[1..n] {
         // Each is written, and the next over it unless it is kept.
-        let x = a[i];
         let k = more(x, at[m - 1]);
         at[m] = x;
         m += k;

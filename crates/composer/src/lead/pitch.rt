@@ -1,7 +1,7 @@
 // A note's pitch, by its role.
 ghost use Rattle.std.specs.Prelude.{◌≡◌, ◌+◌, ◌≤◌, ◌<◌};
 ghost use Rattle.composer.specs.Lead.Ground.{tones_for_of};
-ghost use Rattle.composer.specs.Lead.Pitch.{lower_of, held_of, bounded_of, steps_of, peak_note_of, chord_note_of, passing_note_of, resolve_note_of, close_note_of, pitch_of};
+ghost use Rattle.composer.specs.Lead.Pitch.{bounded_of, steps_of, peak_note_of, chord_note_of, passing_note_of, resolve_note_of, close_note_of, pitch_of};
 ghost use Rattle.composer.specs.Lead.Sound.{Sound, Fit, Quotable};
 
 use crate::chord::FIFTH;
@@ -9,7 +9,7 @@ use crate::lead::ground::{Ground, tones_for};
 use crate::lead::line::{Line, Place};
 use crate::lead::role::Role;
 use crate::lead::scale::scale_step;
-use crate::lead::tones::{Tones, distance, near};
+use crate::lead::tones::{Tones, near};
 use streams::draw::{chance, coin, pick};
 use streams::stream::{Draw, NoiseStream};
 
@@ -26,33 +26,12 @@ const DRIFTS: u8 = 9;
 // The chance that a passing tone skips a degree.
 const SKIP_P: f32 = 0.3;
 
-// x, or hi where x is above it.
-fn lower(x: u8, hi: u8) -> u8
-    ensures { result ≡ lower_of x hi }
-{
-    if x < hi { x } else { hi }
-}
-
-// x held in the window.
-fn held(x: u8, lo: u8, hi: u8) -> u8
-    requires { lo ≤ hi }
-    ensures { result ≡ held_of x lo hi }
-{
-    if x < lo {
-        lo
-    } else if hi < x {
-        hi
-    } else {
-        x
-    }
-}
-
 // n, or the tone nearest to prev where n is further than a fifth from it.
 fn bounded(t: Tones, n: u8, prev: u8) -> u8
     requires { (0 < t.n) × (t.n ≤ 20) }
     ensures { result ≡ bounded_of t n prev }
 {
-    if distance(n, prev) > FIFTH {
+    if n.abs_diff(prev) > FIFTH {
         near(t, prev)
     } else {
         n
@@ -79,7 +58,7 @@ fn peak_note(s: NoiseStream, g: Ground, prev: u8) -> Draw<u8>
     requires { (prev < 200) × (0 < g.strong.n) × (g.strong.n ≤ 20) }
     ensures { result ≡ peak_note_of s g prev }
 {
-    pick(s, PEAK_LIFTS).map(|lift| near(g.strong, lower(prev + PEAK_LIFT + lift, g.hi)))
+    pick(s, PEAK_LIFTS).map(|lift| near(g.strong, (prev + PEAK_LIFT + lift).min(g.hi)))
 }
 
 // A step against the leap from `from` to prev.
@@ -97,7 +76,7 @@ fn chord_note(s: NoiseStream, g: Ground, strong: bool, prev: u8) -> Draw<u8>
 {
     let t = tones_for(g, strong);
     pick(s, DRIFTS).map(|drift| {
-        let target = held(prev + drift - DRIFT, g.lo, g.hi);
+        let target = (prev + drift - DRIFT).clamp(g.lo, g.hi);
         bounded(t, near(t, target), prev)
     })
 }

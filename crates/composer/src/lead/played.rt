@@ -51,8 +51,8 @@ pub(crate) fn played(m: Sung, beat_s: f32, dur: f32) -> LeadLane
 {
     let mut notes = [NO_NOTE; 56];
     let mut stream = m.line.stream;
-    for i in 0..m.count {
-        let p = play(m.notes[i], beat_s, dur, stream);
+    for (i, &x) in m.notes[..m.count].iter().enumerate() {
+        let p = play(x, beat_s, dur, stream);
         notes[i] = p.value;
         stream = p.stream;
     }

@@ -3,7 +3,6 @@ ghost use Rattle.std.specs.Prelude.{◌≡◌};
 ghost use Rattle.composer.specs.Lead.Role.{noted_of, quotes_of, peaks_of, leapt_of, chosen_of, chance_role_of, role_of};
 
 use crate::lead::line::{Line, Place};
-use crate::lead::tones::distance;
 use crate::note::NoteRole;
 use streams::draw::chance;
 use streams::stream::{Draw, NoiseStream};
@@ -19,7 +18,7 @@ const LEAP: u8 = 4;
 // The chance that an off-beat note is a chord tone.
 const CHORD_TONE_P: f32 = 0.55;
 
-#[derive(Clone, Copy)]
+#[derive(Clone, Copy, PartialEq, Eq, Debug)]
 pub enum Role {
     // the answer opens on the statement's opening notes
     Quote,
@@ -69,7 +68,7 @@ fn peaks(p: Place) -> bool
 fn leapt(from: u8, prev: u8) -> bool
     ensures { result ≡ leapt_of from prev }
 {
-    distance(from, prev) > LEAP
+    from.abs_diff(prev) > LEAP
 }
 
 // A role beside the stream as it is then.

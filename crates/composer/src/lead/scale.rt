@@ -10,11 +10,9 @@ pub(crate) fn pool_of(scale: Scale) -> [bool; 12]
     requires { (scale.n ≤ 6) × ((k : ℕ) → k < scale.n → get_or scale.pcs k 0 < 12) }
     ensures { result ≡ pool_of scale }
 {
-    let pcs = scale.pcs;
-    let n = scale.n;
     let mut pool = [false; 12];
-    for i in 0..n {
-        pool[pcs[i] as usize] = true;
+    for &pc in &scale.pcs[..scale.n] {
+        pool[pc as usize] = true;
     }
     pool
 }
@@ -23,8 +21,7 @@ pub(crate) fn pool_of(scale: Scale) -> [bool; 12]
 pub(crate) fn has(pool: &[bool], pc: u8) -> bool
     ensures { result ≡ in_pool pool.now pc }
 {
-    let i = pc as usize;
-    if i < pool.len() { pool[i] } else { false }
+    pool.get(pc as usize).copied().unwrap_or(false)
 }
 
 // Whether a note is in the window and in the scale.
@@ -86,14 +83,15 @@ fn walk(pool: &[bool], up: bool, note: u8, space: u8, steps: u8) -> u8
     ensures { result ≡ walk_of pool.now up note space steps }
 {
     let mut n = note;
-    let mut left = space;
     let mut due = steps;
-    while left > 0 && due > 0 {
+    for _ in 0..space {
+        if due == 0 {
+            break;
+        }
         n = moved(up, n);
         if has(pool, n % OCTAVE) {
             due -= 1;
         }
-        left -= 1;
     }
     n
 }

@@ -47,9 +47,9 @@ pub(crate) fn statement_bar(s: NoiseStream, style: LeadStyle) -> Draw<Beats>
     }
     let mut sounds = [false; 7];
     let mut stream = rests.stream;
-    for i in 0..7usize {
+    for sound in &mut sounds {
         let c = chance(stream, style.note_p);
-        sounds[i] = c.value;
+        *sound = c.value;
         stream = c.stream;
     }
     let mut at = [0.0f32; 7];

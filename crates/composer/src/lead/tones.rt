@@ -1,6 +1,6 @@
 // A chord's tones in the lead's window, and the one nearest to a note.
-ghost use Rattle.std.specs.Prelude.{◌≡◌, ◌+◌, ◌≤◌, ◌<◌, min, length};
-ghost use Rattle.composer.specs.Lead.Tones.{lowest_of, cleared_of, scale_notes_of, chord_tones_of, strong_of, distance_of, rank_of, nearest_of, near_of};
+ghost use Rattle.std.specs.Prelude.{◌≡◌, ◌+◌, ◌≤◌, ◌<◌, length};
+ghost use Rattle.composer.specs.Lead.Tones.{lowest_of, cleared_of, scale_notes_of, chord_tones_of, strong_of, rank_of, nearest_of, near_of};
 
 use crate::chord::{Chord, OCTAVE};
 use crate::lead::scale::has;
@@ -22,34 +22,16 @@ pub struct ChordTones {
 // Above every note.
 const NO_TONE: u16 = 256;
 
-// The lesser of two.
-fn least(a: u16, b: u16) -> u16
-    ensures { result ≡ min a b }
-{
-    if a < b { a } else { b }
-}
-
 // Of each class the lowest of the chord's notes, or more than any note.
 fn lowest_of(chord: &[u8]) -> [u16; 12]
     ensures { result ≡ lowest_of chord.now }
 {
     let mut lowest = [NO_TONE; 12];
-    let mut i: usize = 0;
-    while i < chord.len() {
-        let c = chord[i];
+    for &c in chord {
         let class = (c % OCTAVE) as usize;
-        lowest[class] = least(lowest[class], c as u16);
-        i += 1;
+        lowest[class] = lowest[class].min(c as u16);
     }
     lowest
-}
-
-// A note as a wider number: it is a byte, so below 256.
-fn wide(x: u8) -> u16
-    ensures value { result ≡ x }
-    ensures upper_bound { result < 256 }
-{
-    x as u16
 }
 
 // The first n, with 0 behind them: what was written last may not have been kept.
@@ -70,13 +52,11 @@ pub(crate) fn scale_notes(pool: &[bool], lo: u8, hi: u8) -> Tones
 {
     let mut at = [0u8; 20];
     let mut n: usize = 0;
-    let mut x = lo;
-    while x <= hi {
+    for x in lo..=hi {
         // Each is written, and the next over it unless it is kept.
         let keep = has(pool, x % OCTAVE);
         at[n] = x;
         n += keep as usize;
-        x += 1;
     }
     cleared(at, n)
 }
@@ -86,20 +66,16 @@ pub(crate) fn chord_tones(notes: Tones, chord: Chord) -> ChordTones
     requires { notes.n ≤ 20 }
     ensures { result ≡ chord_tones_of notes chord }
 {
-    let members = chord.notes;
-    let lowest = lowest_of(&members);
+    let lowest = lowest_of(&chord.notes);
     let root = chord.root_class();
-    let all = notes.at;
-    let count = notes.n;
     let mut at = [0u8; 20];
     let mut n: usize = 0;
     let mut others = [0u8; 20];
     let mut m: usize = 0;
-    for i in 0..count {
-        let x = all[i];
+    for &x in &notes.at[..notes.n] {
         let class = x % OCTAVE;
         // a chord's note, or whole octaves above one: not below the lowest of its class
-        let keep = lowest[class as usize] <= wide(x);
+        let keep = lowest[class as usize] <= x as u16;
         let other = keep & (class != root);
         at[n] = x;
         n += keep as usize;
@@ -121,18 +97,11 @@ pub(crate) fn strong_of(tones: Tones, rootless: Tones) -> Tones
     if rootless.n == 0 { tones } else { rootless }
 }
 
-// Semitones between two notes.
-pub(crate) fn distance(a: u8, b: u8) -> u8
-    ensures { result ≡ distance_of a b }
-{
-    if a < b { b - a } else { a - b }
-}
-
 // By distance first, then by height: the note is the lower byte.
 fn rank(target: u8, x: u8) -> u16
     ensures { result ≡ rank_of target x }
 {
-    distance(x, target) as u16 * 256 + x as u16
+    x.abs_diff(target) as u16 * 256 + x as u16
 }
 
 // The nearest note to the target; ties low.
@@ -140,12 +109,9 @@ fn nearest(notes: &[u8], target: u8) -> u8
     requires { 0 < length notes.now }
     ensures { result ≡ nearest_of notes.now target }
 {
-    let mut best = rank(target, notes[0]);
-    let mut i: usize = 1;
-    while i < notes.len() {
-        best = least(best, rank(target, notes[i]));
-        i += 1;
-    }
+    let best = notes
+        .iter()
+        .fold(u16::MAX, |best, x| best.min(rank(target, *x)));
     (best % 256) as u8
 }
 
@@ -154,7 +120,5 @@ pub(crate) fn near(t: Tones, target: u8) -> u8
     requires { (0 < t.n) × (t.n ≤ 20) }
     ensures { result ≡ near_of t target }
 {
-    let at = t.at;
-    let n = t.n;
-    nearest(&at[..n], target)
+    nearest(&t.at[..t.n], target)
 }

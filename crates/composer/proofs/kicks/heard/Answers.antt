@@ -1,32 +1,36 @@
--- After i turns the first i hits are heard. Assumes nothing.
-use mathlib.Core.Path.{◌≡◌, refl, ◌∙◌}
-use mathlib.Core.List.{[]}
-use native.Mathlib.Omega.{arith}
-use lib.ListN.{length, take}
-use lib.Seq.{length-take-le}
+-- The kicks among the hits so far stand before the padding. Assumes nothing.
+use Rattle.std.proofs.Common.{◌≡◌, refl, sym, ◌∙◌, ◌+◌, [], ◌∷◌, ◌++◌, get_or, take, arith, add-one, length-append, length-take}
+use Rattle.std.proofs.lemmas.List.{append-nil}
 use Rattle.laws.specs.Lists.{pad}
-use Rattle.laws.proofs.Sorts.{fold_on}
-use Rattle.composer.specs.Note.{past_hit}
-use Rattle.composer.specs.Kicks.{kick_times, hear_of}
-use Rattle.composer.proofs.KicksLaws.{hear_whole}
-use borrow.Author.Rules.{rules}
+use Rattle.laws.proofs.Lists.{pad_push}
+use Rattle.composer.specs.Note.{zero32, past_hit}
+use Rattle.composer.specs.Kicks.{times_of}
+use Rattle.composer.proofs.KicksLaws.{kick_test, times_more}
 use Rattle.composer.proofs.kicks.heard.Goals as goal
+use Rattle.composer.proofs.kicks.heard.Goals.{then-eq, else-eq}
 
-pub loop-i-init : goal.loop-i-init
-unfolding pad
-loop-i-init c = (search rules, search rules, refl)
+pub loop-hit-init : goal.loop-hit-init
+unfolding times_of pad
+loop-hit-init c = record { few = omega arith; count = refl; times = refl }
 
-pub loop-i-preserved : goal.loop-i-preserved
-loop-i-preserved c =
-    let l = c.loop-i in
-    let a = c.args.hits in
-    let k : length a ≡ 98 = search rules in
-    (omega arith, omega arith, fold_on hear_of (kick_times []) a l.i past_hit l.t c.hear-t.result (omega arith) l.invariant.2 c.hear-t.ensures.value)
-
-pub returns : goal.returns
-returns c =
-    let l = c.loop-i in
-    let a = c.args.hits in
-    let k : length a ≡ 98 = search rules in
-    let e : l.i ≡ c.args.n = omega arith in
-    record { value = rw (← e) (l.invariant.2 ∙ hear_whole (take l.i a) (omega (arith, length-take-le l.i a (omega arith)))); n_bound = search rules }
+pub loop-hit-preserved : goal.loop-hit-preserved
+loop-hit-preserved c =
+    let l = c.loop-hit in
+    let hits = take c.args.n c.args.hits in
+    let hit = get_or hits l.hit-index past_hit in
+    let times = times_of (take l.hit-index hits) in
+    let is = sym (kick_test hit.kind) ∙ sym c.eq.ensures in
+    let more = times_more hits l.hit-index past_hit (omega arith) in
+    let most = length-take c.args.n c.args.hits in
+    elim c.if-eq.branch [
+      | then-eq w ↦
+          let grown : times_of (take (l.hit-index + 1) hits) ≡ times ++ (hit.at ∷ []) = rw (add-one, more, is, w.if-eq.true) in
+          record {
+            few = omega arith;
+            count = rw (w.count-is, grown, length-append times (hit.at ∷ [])) (omega arith);
+            times = rw (w.at-is, grown, l.invariant.times) (pad_push zero32 98 times hit.at l.count (sym l.invariant.count) (omega arith));
+          }
+      | else-eq w ↦
+          let same : times_of (take (l.hit-index + 1) hits) ≡ times = rw (add-one, more, is, w.if-eq.false, append-nil) in
+          record { few = omega arith; count = rw (w.count-is, same) l.invariant.count; times = rw (w.at-is, same) l.invariant.times }
+    ]

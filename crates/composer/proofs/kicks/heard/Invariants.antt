@@ -1,13 +1,13 @@
--- After i turns the first i hits are heard. Assumes nothing.
-use mathlib.Core.Path.{◌≡◌}
-use mathlib.Core.List.{[], foldl}
-use Prim.Native.Nat.{◌≤◌, ◌-◌}
-use lib.ListN.{take}
-use Rattle.composer.specs.Kicks.{kick_times, hear_of}
+-- The kicks among the hits so far stand before the padding. Assumes nothing.
+use Rattle.std.proofs.Common.{◌≡◌, ◌≤◌, length, take}
+use Rattle.laws.specs.Lists.{pad}
+use Rattle.composer.specs.Note.{zero32}
+use Rattle.composer.specs.Kicks.{times_of}
 use Rattle.composer.proofs.kicks.heard.Given as goal
 
-abbrev pub invariant-loop-i : goal.invariant-loop-i
-invariant-loop-i l = (l.i ≤ l.n) × (l.t.n ≤ l.i) × (l.t ≡ foldl hear_of (kick_times []) (take l.i l.hits))
-
-abbrev pub decreases-loop-i : goal.decreases-loop-i
-decreases-loop-i l = l.n - l.i
+abbrev pub invariant-loop-hit : goal.invariant-loop-hit
+invariant-loop-hit l = record {
+  few : l.count ≤ l.hit-index;
+  count : l.count ≡ length (times_of (take l.hit-index l.hit-items));
+  times : l.at ≡ pad zero32 98 (times_of (take l.hit-index l.hit-items));
+}

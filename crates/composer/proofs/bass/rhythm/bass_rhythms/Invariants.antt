@@ -1,8 +1,7 @@
--- After b turns the first b bars have their rhythms. Assumes nothing.
-use mathlib.Core.Path.{◌≡◌}
-use Prim.Native.Nat.{◌≤◌}
+-- The bars so far have their rhythms. Assumes nothing.
+use Rattle.std.proofs.Common.{◌≡◌}
 use Rattle.composer.specs.Bass.Rhythm.{rhythms_to}
 use Rattle.composer.proofs.bass.rhythm.bass_rhythms.Given as goal
 
-abbrev pub invariant-loop-b : goal.invariant-loop-b
-invariant-loop-b l = (l.b ≤ 8) × (rhythms_to (record { value = l.initial.bars; stream = l.initial.stream }) l.b ≡ record { value = l.bars; stream = l.stream })
+abbrev pub invariant-loop-bar : goal.invariant-loop-bar
+invariant-loop-bar l = rhythms_to (record { value = l.initial.bar-items; stream = l.initial.stream }) l.bar-index ≡ record { value = l.bar-items; stream = l.stream }

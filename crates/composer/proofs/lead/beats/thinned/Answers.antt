@@ -1,55 +1,41 @@
--- After i turns the first i beats are thinned. Assumes nothing.
-use mathlib.Core.Path.{◌≡◌}
-use native.Mathlib.Omega.{arith}
-use lib.ListN.{take}
-use lib.Ieee.{nan}
+-- The first beat and those of the loop so far are thinned. Assumes nothing.
+use Rattle.std.proofs.Common.{◌≡◌, ◌+◌, ◌-◌, length, get_or, take, drop, arith, length-take, length-drop}
+use Rattle.std.proofs.lemmas.Grind.{common_steps}
+use Rattle.std.specs.Float.{nan}
 use Rattle.laws.specs.Lists.{pad}
 use Rattle.composer.specs.Lead.Beats.{thin_of}
 use Rattle.composer.proofs.lead.BeatsLaws.{written_full, written_rest, thin_first, thin_on}
 use Rattle.composer.proofs.lead.beats.thinned.Goals as goal
 
-pub returns-then-n-eq0 : goal.returns-then-n-eq0
+pub returns-then-n-eq0-clause-value : goal.returns-then-n-eq0-clause-value
 unfolding thin_of pad
-returns-then-n-eq0 c = record { value = rw c.if-n-eq0.true; n_bound = omega arith }
+returns-then-n-eq0-clause-value c = rw c.if-n-eq0.true
 
-pub bounds-a-0 : goal.bounds-a-0
-bounds-a-0 c = omega arith
+pub loop-x-init : goal.loop-x-init
+loop-x-init c = record { some = omega arith; few = omega arith; kept = thin_first c.args.a.now (omega arith) }
 
-pub bounds-at-0 : goal.bounds-at-0
-bounds-at-0 c = omega arith
-
-pub loop-i-init : goal.loop-i-init
-loop-i-init c = (omega arith, omega arith, omega arith, omega arith, thin_first c.args.a.now (omega arith))
-
-pub overflow_add-m : goal.overflow_add-m
-overflow_add-m c = omega arith
-
-pub overflow_step-i : goal.overflow_step-i
-overflow_step-i c = omega arith
-
-pub loop-i-smaller : goal.loop-i-smaller
-loop-i-smaller c = omega arith
-
-pub loop-i-preserved : goal.loop-i-preserved
-loop-i-preserved c =
-    let l = c.loop-i in
+pub loop-x-preserved : goal.loop-x-preserved
+loop-x-preserved c =
+    let l = c.loop-x in
     let a = c.args.a.now in
-    (omega arith, omega arith, omega arith, omega arith, thin_on a l.at l.i l.m (omega arith) (omega arith) (omega arith) l.invariant.4 c.more-k.result c.more-k.ensures.value)
+    let next : get_or (take (c.args.n - 1) (drop 1 a)) l.x-index nan ≡ get_or a (l.x-index + 1) nan = grind (arith, common_steps) in
+    let size : length (take (c.args.n - 1) (drop 1 a)) ≡ c.args.n - 1 = omega (arith, length-take (c.args.n - 1) (drop 1 a), length-drop 1 a) in
+    record {
+      some = omega arith;
+      few = omega arith;
+      kept = rw next (thin_on a l.at (l.x-index + 1) l.m (omega arith) (omega arith) (omega arith) l.invariant.kept c.more-k.result (rw next at c.more-k.ensures.value));
+    }
 
-pub returns-then-m-eq7 : goal.returns-then-m-eq7
-returns-then-m-eq7 c =
-    let l = c.loop-i in
-    let e : l.i ≡ c.args.n = omega arith in
-    record { value = rw (← e) (written_full (thin_of nan (take l.i c.args.a.now)) l.at l.m l.invariant.4 c.if-m-eq7.true); n_bound = omega arith }
+pub returns-then-m-eq7-clause-value : goal.returns-then-m-eq7-clause-value
+returns-then-m-eq7-clause-value c =
+    let l = c.loop-x in
+    let a = c.args.a.now in
+    let all : l.x-index + 1 ≡ c.args.n = omega (arith, length-take (c.args.n - 1) (drop 1 a), length-drop 1 a) in
+    rw (← all) (written_full (thin_of nan (take (l.x-index + 1) a)) l.at l.m l.invariant.kept c.if-m-eq7.true)
 
-pub offset_bounds-at-m-2 : goal.offset_bounds-at-m-2
-offset_bounds-at-m-2 c = omega arith
-
-pub bounds-at-m-2 : goal.bounds-at-m-2
-bounds-at-m-2 c = omega arith
-
-pub returns : goal.returns
-returns c =
-    let l = c.loop-i in
-    let e : l.i ≡ c.args.n = omega arith in
-    record { value = rw (← e) (written_rest (thin_of nan (take l.i c.args.a.now)) l.at l.m l.invariant.4); n_bound = omega arith }
+pub returns-clause-value : goal.returns-clause-value
+returns-clause-value c =
+    let l = c.loop-x in
+    let a = c.args.a.now in
+    let all : l.x-index + 1 ≡ c.args.n = omega (arith, length-take (c.args.n - 1) (drop 1 a), length-drop 1 a) in
+    rw (← all) (written_rest (thin_of nan (take (l.x-index + 1) a)) l.at l.m l.invariant.kept)

@@ -1,9 +1,9 @@
 -- The drift is below 9, and the tones are those for the beat. Assumes nothing.
 use Prim.Native.Nat.{◌<◌}
+use borrow.Author.Rules.{rules}
 use native.Mathlib.Omega.{arith}
 use Rattle.composer.specs.Lead.Pitch.{chord_note_of}
 use Rattle.composer.proofs.lead.PitchLaws.{picked_below}
-use borrow.Author.Rules.{rules}
 use Rattle.composer.proofs.lead.pitch.chord_note.Goals as goal
 
 pub map-requires : goal.map-requires

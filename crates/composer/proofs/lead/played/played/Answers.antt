@@ -1,21 +1,23 @@
--- After i turns i notes are played. Assumes nothing.
-use mathlib.Core.Path.{refl}
-use native.Mathlib.Omega.{arith}
+-- As many notes are played as the loop has passed. Assumes nothing.
+use Rattle.std.proofs.Common.{◌≡◌, refl, get_or, take, arith}
+use Rattle.std.proofs.lemmas.Grind.{common_steps}
+use Rattle.composer.specs.Lead.Melody.{past_lead}
 use Rattle.composer.specs.Lead.Played.{play_to}
 use Rattle.composer.proofs.lead.PlayedLaws.{lane_more, played_all}
 use Rattle.composer.proofs.lead.played.played.Goals as goal
 
 pub loop-i-init : goal.loop-i-init
 unfolding play_to
-loop-i-init c = (omega arith, omega arith, refl)
+loop-i-init c = refl
 
 pub loop-i-preserved : goal.loop-i-preserved
 loop-i-preserved c =
     let l = c.loop-i in
-    let p = c.play-p in
-    (omega arith, omega arith, lane_more c.args.m c.args.beat_s c.args.dur c.args.m.line.stream l.notes l.stream l.i _ p.result l.invariant.2 refl p.ensures)
+    let m = c.args.m in
+    let x : get_or (take m.count m.notes) l.i past_lead ≡ get_or m.notes l.i past_lead = grind (arith, common_steps) in
+    lane_more m c.args.beat_s c.args.dur m.line.stream l.notes l.stream l.i _ c.play-p.result l.invariant x c.play-p.ensures
 
 pub returns : goal.returns
 returns c =
     let l = c.loop-i in
-    played_all c.args.m c.args.beat_s c.args.dur l.notes l.stream l.i l.invariant.2 (omega arith)
+    played_all c.args.m c.args.beat_s c.args.dur l.notes l.stream l.i l.invariant (omega arith)

@@ -1,40 +1,16 @@
--- After i turns the first i classes are marked. Assumes nothing.
-use mathlib.Core.Path.{◌≡◌, ap, ◌∙◌}
-use mathlib.Core.Bool.{Bool, true}
-use mathlib.Core.List.{List}
-use Prim.Native.Nat.{ℕ}
-use native.Mathlib.Omega.{arith}
-use lib.ListN.{length, get_or, take, set}
-use Rattle.composer.specs.Lead.Scale.{pool_by}
+-- The classes so far are marked. Assumes nothing.
+use Rattle.std.proofs.Common.{◌∙◌, ap, ◌<◌, Bool, true, List, get_or, set, arith}
+use Rattle.std.proofs.lemmas.Grind.{common_steps}
+use Rattle.composer.specs.Lead.Scale.{pcs_of}
 use Rattle.composer.proofs.lead.ScaleLaws.{pool_none, mark_on}
-use borrow.Author.Rules.{rules}
 use Rattle.composer.proofs.lead.scale.pool_of.Goals as goal
 
-pub loop-i-init : goal.loop-i-init
-loop-i-init c = (omega arith, omega arith, pool_none)
+pub loop-pc-init : goal.loop-pc-init
+loop-pc-init c = pool_none
 
-pub bounds-pcs-i : goal.bounds-pcs-i
-bounds-pcs-i c = omega arith
-
-pub bounds-pool-pcs : goal.bounds-pool-pcs
-bounds-pool-pcs c = c.requires.1 c.loop-i.i (omega arith)
-
-pub overflow_step-i : goal.overflow_step-i
-overflow_step-i c = omega arith
-
-pub loop-i-smaller : goal.loop-i-smaller
-loop-i-smaller c = omega arith
-
-pub loop-i-preserved : goal.loop-i-preserved
-loop-i-preserved c =
-    let l = c.loop-i in
-    let pcs = c.args.scale.pcs in
-    let k : length pcs ≡ 6 = search rules in
-    (omega arith, omega arith, ap (λ (ys : List Bool). set ys (get_or pcs l.i 0) true) l.invariant.2 ∙ mark_on pcs l.i (omega arith) (c.requires.1 l.i (omega arith)))
-
-pub returns : goal.returns
-returns c =
-    let l = c.loop-i in
-    let scale = c.args.scale in
-    let e : l.i ≡ scale.n = omega arith in
-    l.invariant.2 ∙ ap (λ (i : ℕ). pool_by (take i scale.pcs)) e
+pub loop-pc-preserved : goal.loop-pc-preserved
+loop-pc-preserved c =
+    let l = c.loop-pc in
+    let pcs = pcs_of c.args.scale in
+    let low : get_or pcs l.pc-index 0 < 12 = grind (arith, common_steps) in
+    ap (λ (ys : List Bool). set ys (get_or pcs l.pc-index 0) true) l.invariant ∙ mark_on pcs l.pc-index (omega arith) low

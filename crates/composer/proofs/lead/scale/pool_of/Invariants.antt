@@ -1,12 +1,7 @@
--- After i turns the first i classes are marked. Assumes nothing.
-use mathlib.Core.Path.{◌≡◌}
-use Prim.Native.Nat.{◌-◌, ◌≤◌}
-use lib.ListN.{take}
+-- The classes so far are marked. Assumes nothing.
+use Rattle.std.proofs.Common.{◌≡◌, take}
 use Rattle.composer.specs.Lead.Scale.{pool_by}
 use Rattle.composer.proofs.lead.scale.pool_of.Given as goal
 
-abbrev pub invariant-loop-i : goal.invariant-loop-i
-invariant-loop-i l = (l.i ≤ l.n) × (l.n ≤ 6) × (l.pool ≡ pool_by (take l.i l.pcs))
-
-abbrev pub decreases-loop-i : goal.decreases-loop-i
-decreases-loop-i l = l.n - l.i
+abbrev pub invariant-loop-pc : goal.invariant-loop-pc
+invariant-loop-pc l = l.pool ≡ pool_by (take l.pc-index l.pc-items)

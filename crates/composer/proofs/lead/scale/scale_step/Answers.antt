@@ -1,13 +1,8 @@
 -- The walk keeps in the window, so the snap may take any note of it. Assumes nothing.
 use native.Mathlib.Omega.{arith}
 use Rattle.composer.specs.Lead.Scale.{scale_step_of}
-use Rattle.composer.proofs.lead.ScaleLaws.{room_in, walk_in}
+use Rattle.composer.proofs.lead.ScaleLaws.{walk_in}
 use Rattle.composer.proofs.lead.scale.scale_step.Goals as goal
-
-pub walk-n-requires : goal.walk-n-requires
-walk-n-requires c =
-    let r = room_in c.args.up c.args.lo c.args.hi c.args.note c.room-space.ensures (omega arith) (omega arith) in
-    omega arith
 
 pub snapped-requires : goal.snapped-requires
 snapped-requires c =
