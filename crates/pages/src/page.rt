@@ -32,11 +32,11 @@ fn chord_size(on: bool) -> usize
 }
 
 // 0x03: the bar's chord, or nothing where the pad is silent.
-fn put_chord(buf: &mut [u8], at: usize, s: Score, on: bool, bar: u8) -> usize
-    requires chorded { Chorded s }
+fn put_chord(buf: &mut [u8], at: usize, s: &Score, on: bool, bar: u8) -> usize
+    requires chorded { Chorded s.now }
     requires bar_bound { bar < 8 }
     requires room { at + (3 + chord_size on) ≤ length buf.old }
-    ensures { Wrote buf.old buf.new at result (3 + chord_size on) (chord_field s on bar) }
+    ensures { Wrote buf.old buf.new at result (3 + chord_size on) (chord_field s.now on bar) }
 {
     if !on {
         return put_head(buf, at, 0x03, 0);
@@ -57,18 +57,14 @@ pub struct Runs {
 }
 
 // Lead and keys both follow the keys' layer.
-fn runs_in(s: Score, p: Plays, bar: u8) -> Runs
-    requires lanes_promise { LanesPromise s }
-    requires bar_bound { bar < 8 }
-    ensures { result ≡ runs_in s p bar }
+fn runs_in(s: &Score, p: Plays, bar: u8) -> Runs
+    requires { LanesPromise s.now }
+    ensures { result ≡ runs_in s.now p bar }
 {
-    let lead = run_in(s, Lane::Lead, p.keys, bar);
-    let keys = run_in(s, Lane::Keys, p.keys, bar);
-    let bass = run_in(s, Lane::Bass, p.bass, bar);
     Runs {
-        lead: lead,
-        keys: keys,
-        bass: bass,
+        lead: run_in(s, Lane::Lead, p.keys, bar),
+        keys: run_in(s, Lane::Keys, p.keys, bar),
+        bass: run_in(s, Lane::Bass, p.bass, bar),
     }
 }
 
@@ -100,35 +96,32 @@ fn page_size(pad: bool, runs: Runs, hits: usize) -> usize
 }
 
 // The page by the runs of one loop bar's notes, and of the hits that are heard in it.
-fn put_page(buf: &mut [u8], s: Score, p: Plays, runs: Runs, hits: HeardRuns, bar: u8) -> usize
-    requires paged { Paged s }
-    requires chorded { Chorded s }
+fn put_page(buf: &mut [u8], s: &Score, p: Plays, runs: Runs, hits: HeardRuns, bar: u8) -> usize
+    requires paged { Paged s.now }
+    requires chorded { Chorded s.now }
     requires bar_bound { bar < 8 }
-    requires runs_value { runs ≡ runs_in s p bar }
-    requires hits_within { HitsWithin s hits }
+    requires runs_value { runs ≡ runs_in s.now p bar }
+    requires hits_within { HitsWithin s.now hits }
     requires count_bound { hits.count ≤ 196 }
-    requires room { page_size s p bar hits.count ≤ length buf.old }
-    ensures { Wrote buf.old buf.new 0 result (page_size s p bar hits.count) (page_bytes s p bar (run_hits s hits)) }
+    requires room { page_size s.now p bar hits.count ≤ length buf.old }
+    ensures { Wrote buf.old buf.new 0 result (page_size s.now p bar hits.count) (page_bytes s.now p bar (run_hits s.now hits)) }
 {
-    let lead = runs.lead;
-    let keys = runs.keys;
-    let bass = runs.bass;
     let z = put_edition(buf, 0, Edition::Two);
     let a = put_chord(buf, z, s, p.pad, bar);
-    let b = put_run(buf, a, Edition::Two, s, Lane::Lead, lead);
-    let c = put_run(buf, b, Edition::Two, s, Lane::Keys, keys);
+    let b = put_run(buf, a, Edition::Two, s, Lane::Lead, runs.lead);
+    let c = put_run(buf, b, Edition::Two, s, Lane::Keys, runs.keys);
     let d = put_page_hits(buf, c, s, hits);
-    put_run(buf, d, Edition::Two, s, Lane::Bass, bass)
+    put_run(buf, d, Edition::Two, s, Lane::Bass, runs.bass)
 }
 
 // The page of a song bar, if the buffer is as long as this very page. The layers that play are known, but for the
 // hits: they are of two bars, and are looked up.
-fn page_into(s: Score, f: Form, p: Plays, bar: u64, buf: &mut [u8]) -> Written
-    requires paged { Paged s }
-    requires chorded { Chorded s }
+fn page_into(s: &Score, f: Form, p: Plays, bar: u64, buf: &mut [u8]) -> Written
+    requires paged { Paged s.now }
+    requires chorded { Chorded s.now }
     requires bar_lt_bars { bar < f.bars }
-    ensures value { result ≡ written_of (length buf.old) (Writes (page_bytes s p (loop_bar_of f bar) (page_hits s f bar))) }
-    ensures buf_after { buf.new ≡ buffer_of buf.old (Writes (page_bytes s p (loop_bar_of f bar) (page_hits s f bar))) }
+    ensures value { result ≡ written_of (length buf.old) (Writes (page_bytes s.now p (loop_bar_of f bar) (page_hits s.now f bar))) }
+    ensures buf_after { buf.new ≡ buffer_of buf.old (Writes (page_bytes s.now p (loop_bar_of f bar) (page_hits s.now f bar))) }
 {
     let looped = f.loop_bar(bar);
     let hits = heard_runs(s, f, bar);
@@ -155,7 +148,7 @@ fn page_of(s: Score, f: Form, bar: u64, buf: &mut [u8]) -> Written
         };
         return Written::Refused(r);
     };
-    page_into(s, f, p, bar, buf)
+    page_into(&s, f, p, bar, buf)
 }
 
 // The page of song bar `bar` of a seed's song in style 0 or 1, from the buffer's first byte on, and its
