@@ -7,7 +7,7 @@ ghost use Rattle.composer.specs.Early.{is_early};
 ghost use Rattle.composer.specs.Promise.{LanesPromise};
 ghost use Rattle.pages.specs.Bar.{shown};
 ghost use Rattle.pages.specs.Hits.{hits_field};
-ghost use Rattle.pages.specs.Inner.Hits.{in_part, hits_in, own_part, run_hits, HitsWithin, heard_runs_of};
+ghost use Rattle.pages.specs.Inner.Hits.{in_part, hits_in, own_part, run_hits, HitsWithin, drum_run_of, heard_runs_of};
 ghost use Rattle.pages.specs.Lane.{hit_bytes, run_of, InLane};
 ghost use Rattle.pages.specs.Writable.{SizedLanes, FiniteHit, Writable};
 ghost use Rattle.pages.specs.declared.hits.Part.{Part};
@@ -96,20 +96,27 @@ fn own_part(bar: u64) -> Part
     if bar == 0 { Part::All } else { Part::Late }
 }
 
+// Where the hits drawn for song bar `bar` stand in the lane.
+#[tactic(auto, using(crate::proofs::LaneLaws::run_within))]
+fn drum_run(s: &Score, f: Form, bar: u64) -> Run
+    requires { LanesPromise s.now }
+    ensures value { result ≡ drum_run_of s.now f bar }
+    ensures in_lane { InLane s.now Lane.Hits result }
+{
+    run_in(s, Lane::Hits, plays_drums(f, bar), f.loop_bar(bar))
+}
+
 // The hits of song bar `bar`'s page.
+#[tactic(auto, using(crate::proofs::HitsLaws::runs_count))]
 pub(crate) fn heard_runs(s: &Score, f: Form, bar: u64) -> HeardRuns
     requires lanes_promise { LanesPromise s.now }
     requires bar_lt_bars { bar < f.bars }
     ensures value { result ≡ heard_runs_of s.now f bar }
     ensures count_bound { result.count ≤ 196 }
 {
-    let on = plays_drums(f, bar);
-    let looped = f.loop_bar(bar);
-    let own = run_in(s, Lane::Hits, on, looped);
+    let own = drum_run(s, f, bar);
     let part = own_part(bar);
-    let on_next = plays_drums(f, bar + 1);
-    let looped_next = f.loop_bar(bar + 1);
-    let next = run_in(s, Lane::Hits, on_next, looped_next);
+    let next = drum_run(s, f, bar + 1);
     let count = part_count(s, own, part) + part_count(s, next, Part::Early);
     HeardRuns {
         own: own,

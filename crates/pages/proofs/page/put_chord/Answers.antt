@@ -1,9 +1,7 @@
 -- A silent pad's head says 0, and else the head says 4 and the bar's four notes follow. Assumes nothing.
-use mathlib.Core.Bool.{true}
-use mathlib.Core.Path.{◌≡◌, sym, ap, ◌∙◌}
+use mathlib.Core.Path.{ap, ◌∙◌}
 use mathlib.Core.List.{List, []}
 use Prim.Native.Nat.{ℕ, ◌+◌}
-use native.Mathlib.Omega.{arith}
 use lib.ListN.{length, get_or}
 use Rattle.laws.proofs.Writes.{wrote_then, wrote_as}
 use Rattle.pages.specs.Bytes.{field}
@@ -13,16 +11,6 @@ use Rattle.pages.proofs.page.put_chord.Goals as goal
 pub returns-then-not-on : goal.returns-then-not-on
 unfolding field
 returns-then-not-on c = rw c.if-not-on.true c.put_head.ensures
-
-pub slice_bounds-put_bytes-end : goal.slice_bounds-put_bytes-end
-slice_bounds-put_bytes-end c =
-    sym (rw c.bar_chords-chords.ensures (chord_notes c.args.s.now c.requires.chorded c.args.bar c.requires.bar_bound))
-
-pub put_bytes-requires : goal.put_bytes-requires
-put_bytes-requires c =
-    let on : c.args.on ≡ true = c.if-not-on.false in
-    let four = chord_notes c.args.s.now c.requires.chorded c.args.bar c.requires.bar_bound in
-    rw c.bar_chords-chords.ensures (omega (arith, rw on at c.requires.room))
 
 pub returns : goal.returns
 unfolding field
