@@ -24,7 +24,7 @@ use Rattle.composer.specs.declared.note.Note.{Note}
 use Rattle.composer.specs.declared.score.Score.{Score}
 use Rattle.pages.specs.Bar.{shown}
 use Rattle.pages.specs.Edition.{note_width}
-use Rattle.pages.specs.Lane.{width_of, count_in, sound_bytes, note_bytes, hit_bytes, bar_in, events_of, run_of, InLane, bars_of, earlier, drawn_for, run_in}
+use Rattle.pages.specs.Lane.{width_of, count_in, sound_bytes, note_bytes, hit_bytes, bar_in, events_of, run_of, InLane, bars_of, earlier, bar_run, drawn_for, run_in}
 use Rattle.pages.specs.Page.{bar_size}
 use Rattle.pages.specs.Writable.{Sized, SizedLanes}
 use Rattle.pages.specs.declared.edition.Edition.{Edition}
@@ -80,17 +80,6 @@ widths edition s Lane.Lead = notes_wide edition (take s.lead_count s.lead)
 widths edition s Lane.Keys = notes_wide edition (take s.keys_count s.keys)
 widths edition s Lane.Hits = hits_wide (take s.hit_count s.hits)
 widths edition s Lane.Bass = notes_wide edition (take s.bass_count s.bass)
-
--- 65,535 is the most that a field's length can say
-notes_small : (edition : Edition) (n : ℕ) → n ≤ 128 → note_width edition * n < 65536
-notes_small Edition.One n h = omega arith
-notes_small Edition.Two n h = omega arith
-
-pub width_small : (edition : Edition) (lane : Lane) (n : ℕ) → n ≤ 128 → width_of edition lane * n < 65536
-width_small edition Lane.Lead n h = notes_small edition n h
-width_small edition Lane.Keys n h = notes_small edition n h
-width_small edition Lane.Hits n h = omega arith
-width_small edition Lane.Bass n h = notes_small edition n h
 
 -- ---- events written one after another
 -- one more
@@ -176,15 +165,6 @@ module _ (s : Score) (p : SizedLanes s) where
   length_bars : (lane : Lane) → length (bars_of s lane) ≡ count_in s lane
   length_bars lane = rw (← bars_are Edition.Two s lane, length-map) (length_events Edition.Two lane)
 
-  pub count_small : (lane : Lane) → count_in s lane ≤ 128
-  count_small Lane.Lead = omega (arith, p.lead.few)
-  count_small Lane.Keys = omega (arith, p.keys.few)
-  count_small Lane.Hits = omega (arith, p.hits.few)
-  count_small Lane.Bass = omega (arith, p.bass.few)
-
-  pub run_small : (edition : Edition) (lane : Lane) (n : ℕ) → n ≤ count_in s lane → width_of edition lane * n < 65536
-  run_small edition lane n h = width_small edition lane n (omega (arith, count_small lane))
-
 module _ (s : Score) (p : LanesPromise s) where
   events_sorted : (edition : Edition) (lane : Lane) → Sorted (by bar_in) (events_of edition s lane)
   events_sorted edition Lane.Lead = laid_sorted note_bar (note_bytes edition) (note_bar_lem edition) s.lead s.lead_count p.lead
@@ -199,12 +179,10 @@ module _ (s : Score) (p : LanesPromise s) where
       rw (count_bars edition s lane bar, count_bars edition s lane (bar + 1)) (run_of_key bar_in bar (events_of edition s lane) (events_sorted edition lane))
   run_drawn edition lane false bar = refl
 
-  pub run_within : (lane : Lane) (on : Bool) (bar : ℕ) → InLane s lane (run_in s lane on bar)
-  unfolding run_in
-  run_within lane true bar =
+  pub run_within : (lane : Lane) (bar : ℕ) → InLane s lane (bar_run bar (bars_of s lane))
+  run_within lane bar =
       let bs = bars_of s lane in
       (omega (arith, count_below itself bar bs), omega (arith, count_most (earlier (bar + 1)) bs, length_bars s (sized s p) lane))
-  run_within lane false bar = (omega arith, omega arith)
 
   pub run_length : (edition : Edition) (lane : Lane) (on : Bool) (bar : ℕ) → (run_in s lane on bar).to - (run_in s lane on bar).from ≡ length (shown on (drawn_for bar (events_of edition s lane)))
   unfolding run_in

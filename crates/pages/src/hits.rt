@@ -97,7 +97,6 @@ fn own_part(bar: u64) -> Part
 }
 
 // Where the hits drawn for song bar `bar` stand in the lane.
-#[tactic(auto, using(crate::proofs::LaneLaws::run_within))]
 fn drum_run(s: &Score, f: Form, bar: u64) -> Run
     requires { LanesPromise s.now }
     ensures value { result ≡ drum_run_of s.now f bar }
@@ -112,6 +111,7 @@ pub(crate) fn heard_runs(s: &Score, f: Form, bar: u64) -> HeardRuns
     requires lanes_promise { LanesPromise s.now }
     requires bar_lt_bars { bar < f.bars }
     ensures value { result ≡ heard_runs_of s.now f bar }
+    ensures within { HitsWithin s.now result }
     ensures count_bound { result.count ≤ 196 }
 {
     let own = drum_run(s, f, bar);

@@ -145,7 +145,8 @@ fn bar_run(s: &Score, lane: Lane, bar: u8) -> Run
 #[tactic(auto, unfolding(crate::specs::Lane::run_in))]
 pub(crate) fn run_in(s: &Score, lane: Lane, on: bool, bar: u8) -> Run
     requires { LanesPromise s.now }
-    ensures { result ≡ run_in s.now lane on bar }
+    ensures value { result ≡ run_in s.now lane on bar }
+    ensures in_lane { InLane s.now lane result }
 {
     if on {
         bar_run(s, lane, bar)

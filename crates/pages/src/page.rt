@@ -7,8 +7,8 @@ ghost use Rattle.pages.specs.Answer.{Writes, written_of, buffer_of};
 ghost use Rattle.pages.specs.Hits.{page_hits};
 ghost use Rattle.pages.specs.Inner.Hits.{run_hits, HitsWithin};
 ghost use Rattle.pages.specs.Lane.{run_size, Held};
-ghost use Rattle.pages.specs.Page.{Chorded, chord_size, chord_field, runs_in, runs_size, page_size, page_bytes, page_of, page_asked};
-ghost use Rattle.pages.specs.Writable.{Paged};
+ghost use Rattle.pages.specs.Page.{Chorded, chord_size, chord_field, runs_in, RunsWithin, runs_size, runs_bytes, page_bytes, page_of, page_asked};
+ghost use Rattle.pages.specs.Writable.{Writable, Paged};
 
 use crate::answer::Written;
 use crate::edition::{Edition, put_edition};
@@ -59,7 +59,8 @@ pub struct Runs {
 // Lead and keys both follow the keys' layer.
 fn runs_in(s: &Score, p: Plays, bar: u8) -> Runs
     requires { LanesPromise s.now }
-    ensures { result ≡ runs_in s.now p bar }
+    ensures value { result ≡ runs_in s.now p bar }
+    ensures within { RunsWithin s.now result }
 {
     Runs {
         lead: run_in(s, Lane::Lead, p.keys, bar),
@@ -97,14 +98,14 @@ fn page_size(pad: bool, runs: Runs, hits: usize) -> usize
 
 // The page by the runs of one loop bar's notes, and of the hits that are heard in it.
 fn put_page(buf: &mut [u8], s: &Score, p: Plays, runs: Runs, hits: HeardRuns, bar: u8) -> usize
-    requires paged { Paged s.now }
+    requires writable { Writable s.now }
     requires chorded { Chorded s.now }
     requires bar_bound { bar < 8 }
-    requires runs_value { runs ≡ runs_in s.now p bar }
+    requires runs_within { RunsWithin s.now runs }
     requires hits_within { HitsWithin s.now hits }
     requires count_bound { hits.count ≤ 196 }
-    requires room { page_size s.now p bar hits.count ≤ length buf.old }
-    ensures { Wrote buf.old buf.new 0 result (page_size s.now p bar hits.count) (page_bytes s.now p bar (run_hits s.now hits)) }
+    requires room { runs_size p.pad runs hits.count ≤ length buf.old }
+    ensures { Wrote buf.old buf.new 0 result (runs_size p.pad runs hits.count) (runs_bytes s.now p bar runs (run_hits s.now hits)) }
 {
     let z = put_edition(buf, 0, Edition::Two);
     let a = put_chord(buf, z, s, p.pad, bar);
