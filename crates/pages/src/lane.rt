@@ -111,9 +111,8 @@ pub(crate) fn put_run(
     requires room { at + (3 + width_of edition lane * (run.to - run.from)) ≤ length buf.old }
     ensures { Wrote buf.old buf.new at result (3 + width_of edition lane * (run.to - run.from)) (field (tag_of lane) (joined (run_of run (events_of edition s.now lane)))) }
 {
-    let tag = lane.tag();
-    let width = lane.width(edition);
-    let a = put_head(buf, at, tag, width * (run.to - run.from));
+    let size = lane.width(edition) * (run.to - run.from);
+    let a = put_head(buf, at, lane.tag(), size);
     put_events(buf, a, edition, s, lane, run)
 }
 

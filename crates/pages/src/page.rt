@@ -41,11 +41,9 @@ fn put_chord(buf: &mut [u8], at: usize, s: &Score, on: bool, bar: u8) -> usize
     if !on {
         return put_head(buf, at, 0x03, 0);
     }
-    let bars = s.bar_chords;
-    let chords = bar_chords(bars);
-    let notes = chords[bar as usize];
+    let chords = bar_chords(s.bar_chords);
     let a = put_head(buf, at, 0x03, 4);
-    put_bytes(buf, a, &notes)
+    put_bytes(buf, a, &chords[bar as usize])
 }
 
 // Where the notes of one loop bar stand in each lane.
@@ -75,8 +73,7 @@ fn run_size(lane: Lane, run: Run) -> usize
     ensures value { result ≡ run_size lane run }
     ensures upper_bound { result < 65536 }
 {
-    let width = lane.width(Edition::Two);
-    width * (run.to - run.from)
+    lane.width(Edition::Two) * (run.to - run.from)
 }
 
 fn page_size(pad: bool, runs: Runs, hits: usize) -> usize
@@ -84,16 +81,10 @@ fn page_size(pad: bool, runs: Runs, hits: usize) -> usize
     requires hits_bound { hits ≤ 196 }
     ensures { result ≡ runs_size pad runs hits }
 {
-    let lead = runs.lead;
-    let keys = runs.keys;
-    let bass = runs.bass;
-    let edition = Edition::Two;
-    let first = edition.field_size();
-    let chord_bytes = chord_size(pad);
-    let lead_bytes = run_size(Lane::Lead, lead);
-    let keys_bytes = run_size(Lane::Keys, keys);
-    let bass_bytes = run_size(Lane::Bass, bass);
-    first + 15 + chord_bytes + lead_bytes + keys_bytes + 10 * hits + bass_bytes
+    let lead = run_size(Lane::Lead, runs.lead);
+    let keys = run_size(Lane::Keys, runs.keys);
+    let bass = run_size(Lane::Bass, runs.bass);
+    Edition::Two.field_size() + 15 + chord_size(pad) + lead + keys + 10 * hits + bass
 }
 
 // The page by the runs of one loop bar's notes, and of the hits that are heard in it.

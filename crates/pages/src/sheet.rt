@@ -24,14 +24,10 @@ fn put_name(buf: &mut [u8], at: usize, seed: u64, s: &Score) -> usize
     requires { at + 13 ≤ length buf.old }
     ensures { Wrote buf.old buf.new at result 13 (name_field seed s.now) }
 {
-    let style = s.style;
-    let number = style.number();
-    let voice = s.lead_voice;
-    let voice_number = voice.number();
     let a = put_head(buf, at, 0x01, 10);
-    let b = put_u8(buf, a, number);
+    let b = put_u8(buf, a, s.style.number());
     let c = put_u64(buf, b, seed);
-    put_u8(buf, c, voice_number)
+    put_u8(buf, c, s.lead_voice.number())
 }
 
 // 0x02: tempo.
@@ -45,12 +41,12 @@ fn put_tempo(buf: &mut [u8], at: usize, s: &Score) -> usize
 }
 
 // Eight chords of four notes.
-fn put_eight(buf: &mut [u8], at: usize, chords: [[u8; 4]; 8]) -> usize
+fn put_eight(buf: &mut [u8], at: usize, chords: &[[u8; 4]; 8]) -> usize
     requires { at + 32 ≤ length buf.old }
-    ensures { Wrote buf.old buf.new at result 32 (joined chords) }
+    ensures { Wrote buf.old buf.new at result 32 (joined chords.now) }
 {
     let mut o = at;
-    for notes in &chords {
+    for notes in chords {
         o = put_bytes(buf, o, notes);
     }
     o
@@ -61,10 +57,8 @@ fn put_chords(buf: &mut [u8], at: usize, s: &Score) -> usize
     requires { at + 35 ≤ length buf.old }
     ensures { Wrote buf.old buf.new at result 35 (chords_field s.now) }
 {
-    let bars = s.bar_chords;
-    let chords = bar_chords(bars);
     let a = put_head(buf, at, 0x03, 32);
-    put_eight(buf, a, chords)
+    put_eight(buf, a, &bar_chords(s.bar_chords))
 }
 
 // 0x04: melody scale.
@@ -73,10 +67,8 @@ fn put_scale(buf: &mut [u8], at: usize, scale: Scale) -> usize
     requires room { at + (3 + scale.n) ≤ length buf.old }
     ensures { Wrote buf.old buf.new at result (3 + scale.n) (scale_field scale) }
 {
-    let pcs = scale.pcs;
-    let n = scale.n;
-    let a = put_head(buf, at, 0x04, n);
-    put_bytes(buf, a, &pcs[..n])
+    let a = put_head(buf, at, 0x04, scale.n);
+    put_bytes(buf, a, &scale.pcs[..scale.n])
 }
 
 // What a song is before its events.
@@ -173,9 +165,7 @@ fn lane_size(edition: Edition, s: &Score, lane: Lane) -> usize
     ensures value { result ≡ lane_size edition s.now lane }
     ensures upper_bound { result < 65536 }
 {
-    let width = lane.width(edition);
-    let n = lane.count(s);
-    width * n
+    lane.width(edition) * lane.count(s)
 }
 
 // Its length.
@@ -184,12 +174,11 @@ pub fn sheet_size(edition: Edition, s: &Score, scale: Scale, f: Form) -> usize
     requires capacities { (scale.n ≤ 6) × (f.bars ≤ 64) }
     ensures { result ≡ sheet_size edition s.now scale f }
 {
-    let first = edition.field_size();
     let lead = lane_size(edition, s, Lane::Lead);
     let keys = lane_size(edition, s, Lane::Keys);
     let hits = lane_size(edition, s, Lane::Hits);
     let bass = lane_size(edition, s, Lane::Bass);
-    first + 82 + scale.n + lead + keys + hits + bass + f.bars as usize
+    edition.field_size() + 82 + scale.n + lead + keys + hits + bass + f.bars as usize
 }
 
 // A song and its form, from the start of a buffer that is long enough.

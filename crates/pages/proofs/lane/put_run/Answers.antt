@@ -7,4 +7,4 @@ use Rattle.pages.proofs.lane.put_run.Goals as goal
 pub returns : goal.returns
 unfolding field
 returns c =
-    wrote_as refl (rw (c.tag-tag.ensures, c.width-width.ensures, c.put_events.ensures.size)) (wrote_then c.put_head-a.ensures c.put_events.ensures)
+    wrote_as refl (rw (c.tag.ensures, c.width.ensures, c.put_events.ensures.size)) (wrote_then c.put_head-a.ensures c.put_events.ensures)

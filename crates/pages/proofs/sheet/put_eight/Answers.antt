@@ -17,5 +17,5 @@ loop-notes-init c = wrote_none c.args.buf.now c.args.at (omega arith)
 pub loop-notes-preserved : goal.loop-notes-preserved
 loop-notes-preserved c =
     let i = c.loop-notes.notes-index in
-    let four : length (get_or c.args.chords i []) ≡ 4 = search (rules, row_long) in
-    wrote_as (omega arith) (sym (joined_on c.args.chords i (omega arith))) (wrote_then c.loop-notes.invariant c.put_bytes-o.ensures)
+    let four : length (get_or c.args.chords.now i []) ≡ 4 = search (rules, row_long) in
+    wrote_as (omega arith) (sym (joined_on c.args.chords.now i (omega arith))) (wrote_then c.loop-notes.invariant c.put_bytes-o.ensures)
