@@ -8,11 +8,12 @@ use native.Mathlib.Nat.{mul-suc}
 use native.Mathlib.Numerals.{add-one}
 use native.Mathlib.Omega.{arith}
 use lib.Dec.{eqb, leb, ltb, leb-suc-suc}
+use Rattle.std.specs.List.{All as Each}
 use Rattle.std.specs.List.Sorted.{IsPartitionPoint, IsNonDecreasingBy}
 use Rattle.std.proofs.lemmas.List.Sorted.{IsNonDecreasingBy-from_all_adjacent}
 use Rattle.laws.specs.Lanes.{Laid}
-use lib.ListN.{length, get_or, take, drop, length-drop, length-map}
-use Rattle.std.proofs.lemmas.List.{drop-map, take-map}
+use lib.ListN.{length, get_or, take, length-take, length-map}
+use Rattle.std.proofs.lemmas.List.Elements.{All-from_get_or}
 use lib.Seq.{length-take-le, get_or-take}
 use Rattle.laws.specs.Lists.{joined, filter_of}
 use Rattle.laws.specs.Sorts.{count, All, Sorted}
@@ -29,8 +30,6 @@ use Rattle.pages.specs.Page.{bar_size}
 use Rattle.pages.specs.Writable.{Sized, SizedLanes}
 use Rattle.pages.specs.declared.edition.Edition.{Edition}
 use Rattle.pages.specs.declared.lane.Lane.{Lane}
-use Rattle.pages.specs.declared.lane.Run.{Run}
-use Rattle.laws.proofs.Filters.{run_in_take}
 use Rattle.laws.proofs.Counts.{count_most, count_filter, count_map, all_kept}
 use Rattle.laws.proofs.Joins.{length_joined, joined_snoc}
 use Rattle.laws.proofs.Keyed.{by, count_below, run_of_key, rises_sorted, sorted_map}
@@ -90,14 +89,11 @@ event_wrote bytes w xs i x h e v p =
     let more : w * i + w ≡ w * (i + 1) = rw add-one (sym (mul-suc w i)) in
     wrote_as more (sym on) (wrote_then v p)
 
--- those of a run of a lane of n events
-pub run_events : {A : Type 0} (bytes : A → List ℕ) (w : ℕ) (xs : List A) (n : ℕ) (run : Run) {cap : ℕ} {b b' : List ℕ} {at r : ℕ} → Sized cap xs n → (run.from ≤ run.to) × (run.to ≤ n)
-    → Wrote b b' at r (w * length (run_of run xs)) (joined (map bytes (run_of run xs))) → Wrote b b' at r (w * (run.to - run.from)) (joined (run_of run (map bytes (take n xs))))
-run_events bytes w xs n run sized in_lane =
-    let k = run.to - run.from in
-    let size : length (run_of run xs) ≡ k = length-take-le k (drop run.from xs) (omega (arith, sized.size, sized.few, length-drop run.from xs)) in
-    let same : map bytes (run_of run xs) ≡ run_of run (map bytes (take n xs)) = rw (drop-map, take-map, run_in_take xs n run.from k (omega arith)) refl in
-    wrote_as (ap (λ (m : ℕ). w * m) size) (ap joined same)
+-- what holds of the first n entries
+pub each_taken : {A : Type 0} (P : A → Type 0) (past : A) (xs : List A) (n : ℕ) → ((i : ℕ) → i < n → P (get_or xs i past)) → Each P (take n xs)
+each_taken P past xs n each =
+    All-from_get_or P (take n xs) past
+    (λ i h. let k : i < n = omega (arith, length-take n xs) in rw (get_or-take n xs i past k) (each i k))
 
 -- ---- events before a bar
 -- where those that pass a test stand before all others, there are so many

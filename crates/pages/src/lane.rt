@@ -69,14 +69,21 @@ impl Lane {
     }
 }
 
-// Events, one after another.
-fn put_each<E: Event>(buf: &mut [u8], at: usize, edition: Edition, events: &[E]) -> usize
+// A run of events, one after another.
+fn put_each<E: Event>(
+    buf: &mut [u8],
+    at: usize,
+    edition: Edition,
+    events: &[E],
+    run: Run,
+) -> usize
     requires finite { All E.Finite events.now }
-    requires room { at + E.width edition * length events.now ≤ length buf.old }
-    ensures { Wrote buf.old buf.new at result (E.width edition * length events.now) (joined (map (E.bytes edition) events.now)) }
+    requires within { (run.from ≤ run.to) × (run.to ≤ length events.now) }
+    requires room { at + E.width edition * (run.to - run.from) ≤ length buf.old }
+    ensures { Wrote buf.old buf.new at result (E.width edition * (run.to - run.from)) (joined (run_of run (map (E.bytes edition) events.now))) }
 {
     let mut o = at;
-    for e in events {
+    for e in &events[run.from..run.to] {
         o = e.put(buf, o, edition);
     }
     o
@@ -90,10 +97,10 @@ fn put_events(buf: &mut [u8], at: usize, edition: Edition, s: &Score, lane: Lane
     ensures { Wrote buf.old buf.new at result (width_of edition lane * (run.to - run.from)) (joined (run_of run (events_of edition s.now lane))) }
 {
     match lane {
-        Lane::Lead => put_each(buf, at, edition, &s.lead[run.from..run.to]),
-        Lane::Keys => put_each(buf, at, edition, &s.keys[run.from..run.to]),
-        Lane::Hits => put_each(buf, at, edition, &s.hits[run.from..run.to]),
-        Lane::Bass => put_each(buf, at, edition, &s.bass[run.from..run.to]),
+        Lane::Lead => put_each(buf, at, edition, &s.lead[..s.lead_count], run),
+        Lane::Keys => put_each(buf, at, edition, &s.keys[..s.keys_count], run),
+        Lane::Hits => put_each(buf, at, edition, &s.hits[..s.hit_count], run),
+        Lane::Bass => put_each(buf, at, edition, &s.bass[..s.bass_count], run),
     }
 }
 

@@ -8,4 +8,4 @@ use Rattle.pages.proofs.lane.put_each.Given as goal
 
 abbrev pub invariant-loop-e : goal.invariant-loop-e
 invariant-loop-e g l =
-    Wrote l.initial.buf l.buf l.at l.o (g.E.Event.width l.edition * l.e-index) (joined (map (g.E.Event.bytes l.edition) (take l.e-index l.events)))
+    Wrote l.initial.buf l.buf l.at l.o (g.E.Event.width l.edition * l.e-index) (joined (map (g.E.Event.bytes l.edition) (take l.e-index l.e-items)))

@@ -1,25 +1,17 @@
--- In each lane the events of the run. Assumes nothing.
-use Rattle.pages.specs.Edition.{note_width}
-use Rattle.pages.specs.Lane.{note_bytes, hit_bytes}
-use Rattle.pages.proofs.LaneLaws.{run_events}
+-- The events in use are finite. Assumes nothing.
+use Rattle.composer.specs.Note.{past_note, past_hit}
+use Rattle.pages.specs.Writable.{FiniteNote, FiniteHit}
+use Rattle.pages.proofs.LaneLaws.{each_taken}
 use Rattle.pages.proofs.lane.put_events.Goals as goal
 
-pub returns-in-Lead : goal.returns-in-Lead
-returns-in-Lead c =
-    let s = c.args.s.now in
-    rw c.in-Lead.is (run_events (note_bytes c.args.edition) (note_width c.args.edition) s.lead s.lead_count c.args.run c.requires.writable.lanes.lead (rw c.in-Lead.is at c.requires.in_lane) c.put_each.ensures)
+pub put_each-requires-clause-finite : goal.put_each-requires-clause-finite
+put_each-requires-clause-finite c = each_taken FiniteNote past_note c.args.s.now.lead c.args.s.now.lead_count c.requires.writable.numbers.lead
 
-pub returns-in-Keys : goal.returns-in-Keys
-returns-in-Keys c =
-    let s = c.args.s.now in
-    rw c.in-Keys.is (run_events (note_bytes c.args.edition) (note_width c.args.edition) s.keys s.keys_count c.args.run c.requires.writable.lanes.keys (rw c.in-Keys.is at c.requires.in_lane) c.put_each-in-Keys.ensures)
+pub put_each-requires-in-Keys-clause-finite : goal.put_each-requires-in-Keys-clause-finite
+put_each-requires-in-Keys-clause-finite c = each_taken FiniteNote past_note c.args.s.now.keys c.args.s.now.keys_count c.requires.writable.numbers.keys
 
-pub returns-in-Hits : goal.returns-in-Hits
-returns-in-Hits c =
-    let s = c.args.s.now in
-    rw c.in-Hits.is (run_events hit_bytes 10 s.hits s.hit_count c.args.run c.requires.writable.lanes.hits (rw c.in-Hits.is at c.requires.in_lane) c.put_each-in-Hits.ensures)
+pub put_each-requires-in-Hits-clause-finite : goal.put_each-requires-in-Hits-clause-finite
+put_each-requires-in-Hits-clause-finite c = each_taken FiniteHit past_hit c.args.s.now.hits c.args.s.now.hit_count c.requires.writable.numbers.hits
 
-pub returns-in-Bass : goal.returns-in-Bass
-returns-in-Bass c =
-    let s = c.args.s.now in
-    rw c.in-Bass.is (run_events (note_bytes c.args.edition) (note_width c.args.edition) s.bass s.bass_count c.args.run c.requires.writable.lanes.bass (rw c.in-Bass.is at c.requires.in_lane) c.put_each-in-Bass.ensures)
+pub put_each-requires-in-Bass-clause-finite : goal.put_each-requires-in-Bass-clause-finite
+put_each-requires-in-Bass-clause-finite c = each_taken FiniteNote past_note c.args.s.now.bass c.args.s.now.bass_count c.requires.writable.numbers.bass
