@@ -7,14 +7,17 @@ use Prim.Native.Nat.{ℕ, ◌+◌, ◌-◌, ◌*◌, ◌≤◌, ◌<◌}
 use native.Mathlib.Omega.{arith}
 use lib.Dec.{eqb, ltb}
 use lib.Ieee.{Float}
-use lib.ListN.{length, get_or, take, drop, length-append, length-map}
-use lib.Seq.{length-take-le}
+use lib.ListN.{length, get_or, take, length-append, length-map}
+use lib.Seq.{length-take-le, take-length}
+use Rattle.std.specs.List.{count_by, filter}
+use Rattle.std.proofs.lemmas.List.Elements.{filter_more}
+use Rattle.std.proofs.lemmas.List.Sums.{length-filter}
 use Rattle.laws.specs.Lists.{joined, filter_of}
 use Rattle.laws.specs.Sorts.{count}
 use Rattle.laws.specs.Writes.{Wrote}
 use Rattle.laws.proofs.Counts.{count_filter, count_map, count_most, filter_most}
-use Rattle.laws.proofs.Filters.{filter_all, filter_run_on, filter_run_count, run_in_take}
-use Rattle.laws.proofs.Joins.{joined_append, length_joined}
+use Rattle.laws.proofs.Filters.{filter_all, filter_fewer, run_in_take}
+use Rattle.laws.proofs.Joins.{joined_append, joined_snoc, length_joined}
 use Rattle.laws.proofs.Keyed.{run_of_key, rises_sorted}
 use Rattle.laws.proofs.Writes.{wrote_then, wrote_as}
 use Rattle.composer.specs.Compose.{beat_s_of}
@@ -34,14 +37,18 @@ use Rattle.pages.specs.declared.hits.HeardRuns.{HeardRuns}
 use Rattle.pages.specs.declared.hits.Part.{Part}
 use Rattle.pages.specs.declared.lane.Lane.{Lane}
 use Rattle.pages.proofs.BytesLaws.{length_field}
-use Rattle.pages.proofs.LaneLaws.{hits_wide, run_within, filter_shown, shown_most}
+use Rattle.pages.proofs.LaneLaws.{hits_wide, filter_shown, shown_most}
+
+-- ---- hits that pass a test
+filter_same : (p : Hit → Bool) (hs : List Hit) → filter p hs ≡ filter_of p hs
+unfolding filter_of
+filter_same p [] = refl
+filter_same p (h ∷ hs) = ap (λ (ps : List Hit). cond (p h) (h ∷ ps) ps) (filter_same p hs)
+
+pub kept_count : (p : Hit → Bool) (hs : List Hit) → count_by p hs ≡ length (filter_of p hs)
+kept_count p hs = sym (length-filter p hs) ∙ ap length (filter_same p hs)
 
 -- ---- hits in bytes
-bytes_one : (on : Bool) (h : Hit) → joined (map hit_bytes (shown on (h ∷ []))) ≡ shown on (hit_bytes h)
-unfolding joined
-bytes_one true h = append-nil (hit_bytes h)
-bytes_one false h = refl
-
 hits_joined : (xs ys : List Hit) → joined (map hit_bytes (xs ++ ys)) ≡ joined (map hit_bytes xs) ++ joined (map hit_bytes ys)
 hits_joined xs ys = rw map-append (joined_append (map hit_bytes xs) (map hit_bytes ys))
 
@@ -51,19 +58,33 @@ hits_bytes hs = length_joined 10 (map hit_bytes hs) (hits_wide hs) ∙ ap (λ (n
 pub hits_length : (hs : List Hit) → length (hits_field hs) ≡ 3 + 10 * length hs
 hits_length hs = length_field 0x07 (joined (map hit_bytes hs)) ∙ ap (λ (n : ℕ). 3 + n) (hits_bytes hs)
 
--- those of a run that pass a test are written up to hit i, and hit i after them, if it passes
-module _ (p : Hit → Bool) (xs : List Hit) (from i : ℕ) (begun : from ≤ i) (h : i < length xs) where
+-- those before hit i that pass a test, and hit i after them
+module _ (p : Hit → Bool) (hs : List Hit) (i : ℕ) (past : Hit) (h : i < length hs) where
   abbrev passed : ℕ → List Hit
-  passed k = filter_of p (take (k - from) (drop from xs))
+  passed k = filter_of p (take k hs)
 
   abbrev hit : Hit
-  hit = get_or xs i past_hit
+  hit = get_or hs i past
 
-  pub part_wrote : {b b' b'' : List ℕ} {at o r : ℕ} → Wrote b b' at o (10 * length (passed i)) (joined (map hit_bytes (passed i))) → Wrote b' b'' o r (10 * cond (p hit) 1 0) (shown (p hit) (hit_bytes hit))
+  passed_more : passed (i + 1) ≡ passed i ++ cond (p hit) (hit ∷ []) []
+  passed_more = rw (← filter_same p (take (i + 1) hs), ← filter_same p (take i hs)) (filter_more p hs i past h)
+
+  pub passed_no : p hit ≡ false → passed (i + 1) ≡ passed i
+  passed_no e = passed_more ∙ rw e (append-nil (passed i))
+
+  passed_yes : p hit ≡ true → passed (i + 1) ≡ passed i ++ (hit ∷ [])
+  passed_yes e = rw e at passed_more
+
+  pub passed_room : p hit ≡ true → length (passed i) + 1 ≤ length (filter_of p hs)
+  passed_room e =
+      let all : length (filter_of p (take (length hs) hs)) ≡ length (filter_of p hs) = rw take-length refl in
+      omega (arith, ap length (passed_yes e), length-append (passed i) (hit ∷ []), filter_fewer p hs (i + 1) (length hs) (omega arith))
+
+  pub passed_wrote : {b b' b'' : List ℕ} {at o r : ℕ} → p hit ≡ true → Wrote b b' at o (10 * length (passed i)) (joined (map hit_bytes (passed i))) → Wrote b' b'' o r 10 (hit_bytes hit)
       → Wrote b b'' at r (10 * length (passed (i + 1))) (joined (map hit_bytes (passed (i + 1))))
-  part_wrote v e =
-      let on = ap (λ (l : List Hit). joined (map hit_bytes l)) (filter_run_on p xs from i past_hit begun h) ∙ hits_joined (passed i) (shown (p hit) (hit ∷ [])) in
-      wrote_as (omega (arith, filter_run_count p xs from i past_hit begun h)) (ap (λ (l : List ℕ). joined (map hit_bytes (passed i)) ++ l) (sym (bytes_one (p hit) hit)) ∙ sym on) (wrote_then v e)
+  passed_wrote e v w =
+      rw (passed_yes e)
+      (wrote_as (omega (arith, length-append (passed i) (hit ∷ []))) (rw map-append (sym (joined_snoc (map hit_bytes (passed i)) (hit_bytes hit)))) (wrote_then v w))
 
 -- ---- two runs of hits as the field
 module _ (s : Score) (h : HeardRuns) (within : HitsWithin s h) where
@@ -124,13 +145,6 @@ module _ (s : Score) (promise : LanesPromise s) where
 
   pub runs_count : (f : Form) (b : ℕ) → length (hits_in s (own_part b) (run_of (drum_run_of s f b) s.hits)) + length (hits_in s Part.Early (run_of (drum_run_of s f (b + 1)) s.hits)) ≡ length (page_hits s f b)
   runs_count f b = sym (length-append (hits_in s (own_part b) (run_of (drum_run_of s f b) s.hits)) (hits_in s Part.Early (run_of (drum_run_of s f (b + 1)) s.hits))) ∙ ap length (runs_hits f b)
-
-  pub hits_within_lem : (f : Form) (b : ℕ) → HitsWithin s (heard_runs_of s f b)
-  hits_within_lem f b = record {
-    own = run_within s promise Lane.Hits (plays_drums f b) (loop_bar_of f b);
-    next = run_within s promise Lane.Hits (plays_drums f (b + 1)) (loop_bar_of f (b + 1));
-    count = sym (ap length (runs_hits f b));
-  }
 
 -- ---- at most
 module _ (s : Score) (each : BarsPromise s) (early : EarlyPromise s) where

@@ -2,34 +2,38 @@
 -- the events of one bar stand together. Assumes nothing.
 use mathlib.Core.Path.{◌≡◌, refl, sym, ap, ◌∙◌}
 use mathlib.Core.Bool.{Bool, true, false}
-use mathlib.Core.List.{List, [], ◌++◌, map, map-map}
-use Prim.Native.Nat.{ℕ, ◌+◌, ◌-◌, ◌*◌, ◌≤◌, ◌<◌}
-use native.Mathlib.Nat.{sub-zero}
+use mathlib.Core.List.{List, [], ◌∷◌, ◌++◌, map, map-map}
+use Prim.Native.Nat.{ℕ, zero, suc, ◌+◌, ◌-◌, ◌*◌, ◌≤◌, ◌<◌}
+use native.Mathlib.Nat.{mul-suc}
+use native.Mathlib.Numerals.{add-one}
 use native.Mathlib.Omega.{arith}
-use lib.Dec.{eqb, ltb}
-use lib.ListN.{length, get_or, take, drop}
-use lib.Seq.{take_all, length-take-le}
+use lib.Dec.{eqb, leb, ltb, leb-suc-suc}
+use Rattle.std.specs.List.{All as Each}
+use Rattle.std.specs.List.Sorted.{IsPartitionPoint, IsNonDecreasingBy}
+use Rattle.std.proofs.lemmas.List.Sorted.{IsNonDecreasingBy-from_all_adjacent}
+use Rattle.laws.specs.Lanes.{Laid}
+use lib.ListN.{length, get_or, take, length-take, length-map}
+use Rattle.std.proofs.lemmas.List.Elements.{All-from_get_or}
+use lib.Seq.{length-take-le, get_or-take}
 use Rattle.laws.specs.Lists.{joined, filter_of}
 use Rattle.laws.specs.Sorts.{count, All, Sorted}
 use Rattle.laws.specs.Writes.{Wrote}
-use Rattle.composer.specs.Note.{past_note, note_bar, past_hit, hit_bar}
+use Rattle.composer.specs.Note.{note_bar, hit_bar}
 use Rattle.composer.specs.Promise.{LanesPromise}
 use Rattle.composer.specs.declared.note.Hit.{Hit}
 use Rattle.composer.specs.declared.note.Note.{Note}
 use Rattle.composer.specs.declared.score.Score.{Score}
 use Rattle.pages.specs.Bar.{shown}
-use Rattle.pages.specs.Bytes.{field}
 use Rattle.pages.specs.Edition.{note_width}
-use Rattle.pages.specs.Lane.{tag_of, width_of, count_in, lane_size, sound_bytes, note_bytes, hit_bytes, bar_in, events_of, run_of, InLane, bars_of, earlier, drawn_for, run_in}
+use Rattle.pages.specs.Lane.{width_of, count_in, sound_bytes, note_bytes, hit_bytes, bar_in, events_of, run_of, InLane, bars_of, earlier, bar_run, drawn_for, run_in}
 use Rattle.pages.specs.Page.{bar_size}
-use Rattle.pages.specs.Sheet.{lane_field}
-use Rattle.pages.specs.Writable.{SizedLanes}
+use Rattle.pages.specs.Writable.{Sized, SizedLanes}
 use Rattle.pages.specs.declared.edition.Edition.{Edition}
 use Rattle.pages.specs.declared.lane.Lane.{Lane}
-use Rattle.laws.proofs.Counts.{count_most, count_filter, count_map, count_on, all_kept}
-use Rattle.laws.proofs.Joins.{length_joined, times_on, joined_run_on}
-use Rattle.laws.proofs.Keyed.{by, count_below, run_of_key, rises_sorted, sorted_map, below_first}
-use Rattle.laws.proofs.Lists.{length_map_take, map_take_at}
+use Rattle.laws.proofs.Counts.{count_most, count_filter, count_map, all_kept}
+use Rattle.laws.proofs.Joins.{length_joined, joined_snoc}
+use Rattle.laws.proofs.Keyed.{by, count_below, run_of_key, rises_sorted, sorted_map}
+use Rattle.laws.proofs.Lists.{get_d_any, length_map_take, map_take_on}
 use Rattle.laws.proofs.Sorts.{all_every, all_map}
 use Rattle.laws.proofs.Writes.{wrote_then, wrote_as}
 use Rattle.pages.proofs.WritableLaws.{sized}
@@ -76,144 +80,93 @@ widths edition s Lane.Keys = notes_wide edition (take s.keys_count s.keys)
 widths edition s Lane.Hits = hits_wide (take s.hit_count s.hits)
 widths edition s Lane.Bass = notes_wide edition (take s.bass_count s.bass)
 
--- 65,535 is the most that a field's length can say
-notes_small : (edition : Edition) (n : ℕ) → n ≤ 128 → note_width edition * n < 65536
-notes_small Edition.One n h = omega arith
-notes_small Edition.Two n h = omega arith
+-- ---- events written one after another
+-- one more
+pub event_wrote : {A : Type 0} (bytes : A → List ℕ) (w : ℕ) (xs : List A) (i : ℕ) (x : A) {b b' b'' : List ℕ} {at o r : ℕ} → i < length xs → x ≡ get_or xs i x
+    → Wrote b b' at o (w * i) (joined (map bytes (take i xs))) → Wrote b' b'' o r w (bytes x) → Wrote b b'' at r (w * (i + 1)) (joined (map bytes (take (i + 1) xs)))
+event_wrote bytes w xs i x h e v p =
+    let on : joined (map bytes (take (i + 1) xs)) ≡ joined (map bytes (take i xs)) ++ bytes x = rw (map_take_on bytes xs i x h, ← e) (joined_snoc (map bytes (take i xs)) (bytes x)) in
+    let more : w * i + w ≡ w * (i + 1) = rw add-one (sym (mul-suc w i)) in
+    wrote_as more (sym on) (wrote_then v p)
 
-pub width_small : (edition : Edition) (lane : Lane) (n : ℕ) → n ≤ 128 → width_of edition lane * n < 65536
-width_small edition Lane.Lead n h = notes_small edition n h
-width_small edition Lane.Keys n h = notes_small edition n h
-width_small edition Lane.Hits n h = omega arith
-width_small edition Lane.Bass n h = notes_small edition n h
+-- what holds of the first n entries
+pub each_taken : {A : Type 0} (P : A → Type 0) (past : A) (xs : List A) (n : ℕ) → ((i : ℕ) → i < n → P (get_or xs i past)) → Each P (take n xs)
+each_taken P past xs n each =
+    All-from_get_or P (take n xs) past
+    (λ i h. let k : i < n = omega (arith, length-take n xs) in rw (get_or-take n xs i past k) (each i k))
 
--- the whole of a list as a run
-whole_run : (es : List (List ℕ)) (n : ℕ) → length es ≡ n → run_of (record { from = 0; to = n }) es ≡ es
-whole_run es n e = take_all (n - 0) es (omega arith)
+-- ---- events before a bar
+-- where those that pass a test stand before all others, there are so many
+count_parted : {A : Type 0} (p : A → Bool) (xs : List A) (i : ℕ) → i ≤ length xs → IsPartitionPoint (λ x. p x ≡ true) (λ x. p x ≡ false) xs i → count p xs ≡ i
+count_parted p [] i h parted = omega arith
+count_parted p (x ∷ xs) zero h parted =
+    rw (parted.1 0 x (omega arith) (omega arith))
+    (omega (arith, count_parted p xs 0 (omega arith) (λ k d l m. absurd (omega arith), λ k d l m. parted.1 (suc k) d (omega arith) (omega arith))))
+count_parted p (x ∷ xs) (suc i) h parted =
+    rw (parted.0 0 x (omega arith) (omega arith))
+    (omega (arith, count_parted p xs i (omega arith) (λ k d l m. parted.0 (suc k) d (omega arith) (omega arith), λ k d l m. parted.1 (suc k) d (omega arith) (omega arith))))
 
--- ---- a run of a lane of n events: written up to event i, and event i after it
-module _ {A : Type 0} (bytes : A → List ℕ) (d : A) (w : ℕ) (xs : List A) (n from i : ℕ) (begun : from ≤ i) (h : i < n) (k : n ≤ length xs) where
-  abbrev events : List (List ℕ)
-  events = map bytes (take n xs)
+pub ltb_next : (m n : ℕ) → ltb m (n + 1) ≡ leb m n
+ltb_next m n = rw add-one (leb-suc-suc m n)
 
-  pub event_wrote : {b b' b'' : List ℕ} {at o r : ℕ} → Wrote b b' at o (w * (i - from)) (joined (take (i - from) (drop from events))) → Wrote b' b'' o r w (bytes (get_or xs i d))
-      → Wrote b b'' at r (w * (i + 1 - from)) (joined (take (i + 1 - from) (drop from events)))
-  event_wrote v e =
-      let on = joined_run_on events from i begun (omega (arith, h, length_map_take bytes xs n k)) in
-      let here = map_take_at bytes xs n i d [] h k in
-      wrote_as (sym (times_on w from i begun)) (ap (λ (l : List ℕ). joined (take (i - from) (drop from events)) ++ l) (sym here) ∙ sym on) (wrote_then v e)
+pub bars_before : {A : Type 0} (bar : A → ℕ) (p : A → Bool) (v : ℕ) → ((x : A) → ltb (bar x) v ≡ p x) → (xs : List A) (i : ℕ) → i ≤ length xs → IsPartitionPoint (λ x. p x ≡ true) (λ x. p x ≡ false) xs i
+    → count (earlier v) (map bar xs) ≡ i
+bars_before bar p v same xs i h parted = count_map bar (earlier v) p same xs ∙ count_parted p xs i h parted
+
+-- bars never fall along a lane
+pub never_fall : {A : Type 0} {past none : A} {cap top : ℕ} (bar : A → ℕ) (xs : List A) (n : ℕ) → Laid past none bar cap top xs n → IsNonDecreasingBy bar (take n xs)
+never_fall {A} {past} bar xs n laid =
+    let size : length (take n xs) ≡ n = length-take-le n xs (omega (arith, laid.size, laid.few)) in
+    let here : (k : ℕ) (d : A) → k < n → get_or (take n xs) k d ≡ get_or xs k past =
+    λ k d h. get_d_any (take n xs) k d past (omega arith) ∙ get_or-take n xs k past h in
+    IsNonDecreasingBy-from_all_adjacent bar (take n xs)
+    (λ k d h. rw (here k d (omega arith), here (k + 1) d (omega arith), add-one k) (laid.rises.rise k (omega arith)))
 
 -- ---- the bars of a lane
 -- bars stand in their order by themselves
 abbrev itself : ℕ → ℕ
 itself b = b
 
--- counted among the bars, or among the events by their first bytes
+-- the first bytes of events are their bars
 module _ {A : Type 0} (bar : A → ℕ) (bytes : A → List ℕ) (same : (x : A) → bar_in (bytes x) ≡ bar x) where
-  count_same_bars : (v : ℕ) (xs : List A) → count (earlier v) (map bar xs) ≡ count (λ e. ltb (bar_in e) v) (map bytes xs)
-  count_same_bars v xs =
-      count_map bar (earlier v) (λ x. ltb (bar x) v) (λ x. refl) xs
-      ∙ sym (count_map bytes (λ e. ltb (bar_in e) v) (λ x. ltb (bar x) v) (λ x. ap (λ (b : ℕ). ltb b v) (same x)) xs)
+  first_bytes : (xs : List A) → map bar_in (map bytes xs) ≡ map bar xs
+  first_bytes [] = refl
+  first_bytes (x ∷ xs) = rw (same x) (ap (λ (l : List ℕ). bar x ∷ l) (first_bytes xs))
 
+  laid_sorted : {past none : A} {cap top : ℕ} (xs : List A) (n : ℕ) → Laid past none bar cap top xs n → Sorted (by bar_in) (map bytes (take n xs))
+  laid_sorted {past} {none} {cap} {top} xs n laid =
+      sorted_map bar bar_in bytes same (take n xs) (rises_sorted bar past xs n top (omega (arith, laid.size, laid.few)) laid.rises)
+
+bars_are : (edition : Edition) (s : Score) (lane : Lane) → map bar_in (events_of edition s lane) ≡ bars_of s lane
+bars_are edition s Lane.Lead = first_bytes note_bar (note_bytes edition) (note_bar_lem edition) (take s.lead_count s.lead)
+bars_are edition s Lane.Keys = first_bytes note_bar (note_bytes edition) (note_bar_lem edition) (take s.keys_count s.keys)
+bars_are edition s Lane.Hits = first_bytes hit_bar hit_bytes hit_bar_lem (take s.hit_count s.hits)
+bars_are edition s Lane.Bass = first_bytes note_bar (note_bytes edition) (note_bar_lem edition) (take s.bass_count s.bass)
+
+-- counted among the bars, or among the events by their first bytes
 count_bars : (edition : Edition) (s : Score) (lane : Lane) (v : ℕ) → count (earlier v) (bars_of s lane) ≡ count (λ e. ltb (bar_in e) v) (events_of edition s lane)
-count_bars edition s Lane.Lead v = count_same_bars note_bar (note_bytes edition) (note_bar_lem edition) v (take s.lead_count s.lead)
-count_bars edition s Lane.Keys v = count_same_bars note_bar (note_bytes edition) (note_bar_lem edition) v (take s.keys_count s.keys)
-count_bars edition s Lane.Hits v = count_same_bars hit_bar hit_bytes hit_bar_lem v (take s.hit_count s.hits)
-count_bars edition s Lane.Bass v = count_same_bars note_bar (note_bytes edition) (note_bar_lem edition) v (take s.bass_count s.bass)
+count_bars edition s lane v =
+    rw (← bars_are edition s lane) (count_map bar_in (earlier v) (λ e. ltb (bar_in e) v) (λ e. refl) (events_of edition s lane))
+
+length_sized : {A B : Type 0} (f : A → B) {cap : ℕ} (xs : List A) (n : ℕ) → Sized cap xs n → length (map f (take n xs)) ≡ n
+length_sized f xs n p = length_map_take f xs n (omega (arith, p.size, p.few))
 
 module _ (s : Score) (p : SizedLanes s) where
-  lead_room : s.lead_count ≤ length s.lead
-  lead_room = omega (arith, p.lead.few, p.lead.size)
-
-  keys_room : s.keys_count ≤ length s.keys
-  keys_room = omega (arith, p.keys.few, p.keys.size)
-
-  hits_room : s.hit_count ≤ length s.hits
-  hits_room = omega (arith, p.hits.few, p.hits.size)
-
-  bass_room : s.bass_count ≤ length s.bass
-  bass_room = omega (arith, p.bass.few, p.bass.size)
-
   pub length_events : (edition : Edition) (lane : Lane) → length (events_of edition s lane) ≡ count_in s lane
-  length_events edition Lane.Lead = length_map_take (note_bytes edition) s.lead s.lead_count lead_room
-  length_events edition Lane.Keys = length_map_take (note_bytes edition) s.keys s.keys_count keys_room
-  length_events edition Lane.Hits = length_map_take hit_bytes s.hits s.hit_count hits_room
-  length_events edition Lane.Bass = length_map_take (note_bytes edition) s.bass s.bass_count bass_room
+  length_events edition Lane.Lead = length_sized (note_bytes edition) s.lead s.lead_count p.lead
+  length_events edition Lane.Keys = length_sized (note_bytes edition) s.keys s.keys_count p.keys
+  length_events edition Lane.Hits = length_sized hit_bytes s.hits s.hit_count p.hits
+  length_events edition Lane.Bass = length_sized (note_bytes edition) s.bass s.bass_count p.bass
 
-  -- a run of all events is the lane's field
-  pub lane_wrote : (edition : Edition) (lane : Lane) {b b' : List ℕ} {at r : ℕ}
-      → Wrote b b' at r (3 + width_of edition lane * (count_in s lane - 0)) (field (tag_of lane) (joined (run_of (record { from = 0; to = count_in s lane }) (events_of edition s lane))))
-      → Wrote b b' at r (3 + lane_size edition s lane) (lane_field edition s lane)
-  lane_wrote edition lane w = rw (whole_run (events_of edition s lane) (count_in s lane) (length_events edition lane), sub-zero (count_in s lane)) at w
-
-  pub length_bars : (lane : Lane) → length (bars_of s lane) ≡ count_in s lane
-  length_bars Lane.Lead = length_map_take note_bar s.lead s.lead_count lead_room
-  length_bars Lane.Keys = length_map_take note_bar s.keys s.keys_count keys_room
-  length_bars Lane.Hits = length_map_take hit_bar s.hits s.hit_count hits_room
-  length_bars Lane.Bass = length_map_take note_bar s.bass s.bass_count bass_room
-
-  pub count_small : (lane : Lane) → count_in s lane ≤ 128
-  count_small Lane.Lead = omega (arith, p.lead.few)
-  count_small Lane.Keys = omega (arith, p.keys.few)
-  count_small Lane.Hits = omega (arith, p.hits.few)
-  count_small Lane.Bass = omega (arith, p.bass.few)
-
-  pub run_small : (edition : Edition) (lane : Lane) (n : ℕ) → n ≤ count_in s lane → width_of edition lane * n < 65536
-  run_small edition lane n h = width_small edition lane n (omega (arith, count_small lane))
+  length_bars : (lane : Lane) → length (bars_of s lane) ≡ count_in s lane
+  length_bars lane = rw (← bars_are Edition.Two s lane, length-map) (length_events Edition.Two lane)
 
 module _ (s : Score) (p : LanesPromise s) where
-  -- ---- bars
-  pub lead_bar_lem : (i : ℕ) → i < s.lead_count → get_or (bars_of s Lane.Lead) i 0 ≡ (get_or s.lead i past_note).bar
-  lead_bar_lem i h = map_take_at note_bar s.lead s.lead_count i past_note 0 h (lead_room s (sized s p))
-
-  pub keys_bar : (i : ℕ) → i < s.keys_count → get_or (bars_of s Lane.Keys) i 0 ≡ (get_or s.keys i past_note).bar
-  keys_bar i h = map_take_at note_bar s.keys s.keys_count i past_note 0 h (keys_room s (sized s p))
-
-  pub hits_bar : (i : ℕ) → i < s.hit_count → get_or (bars_of s Lane.Hits) i 0 ≡ (get_or s.hits i past_hit).bar
-  hits_bar i h = map_take_at hit_bar s.hits s.hit_count i past_hit 0 h (hits_room s (sized s p))
-
-  pub bass_bar : (i : ℕ) → i < s.bass_count → get_or (bars_of s Lane.Bass) i 0 ≡ (get_or s.bass i past_note).bar
-  bass_bar i h = map_take_at note_bar s.bass s.bass_count i past_note 0 h (bass_room s (sized s p))
-
-  -- bars never fall along a lane
-  bars_sorted : (lane : Lane) → Sorted (by itself) (bars_of s lane)
-  bars_sorted Lane.Lead = sorted_map note_bar itself note_bar (λ x. refl) (take s.lead_count s.lead) (rises_sorted note_bar past_note s.lead s.lead_count 7 (lead_room s (sized s p)) p.lead.rises)
-  bars_sorted Lane.Keys = sorted_map note_bar itself note_bar (λ x. refl) (take s.keys_count s.keys) (rises_sorted note_bar past_note s.keys s.keys_count 7 (keys_room s (sized s p)) p.keys.rises)
-  bars_sorted Lane.Hits = sorted_map hit_bar itself hit_bar (λ x. refl) (take s.hit_count s.hits) (rises_sorted hit_bar past_hit s.hits s.hit_count 7 (hits_room s (sized s p)) p.hits.rises)
-  bars_sorted Lane.Bass = sorted_map note_bar itself note_bar (λ x. refl) (take s.bass_count s.bass) (rises_sorted note_bar past_note s.bass s.bass_count 7 (bass_room s (sized s p)) p.bass.rises)
-
   events_sorted : (edition : Edition) (lane : Lane) → Sorted (by bar_in) (events_of edition s lane)
-  events_sorted edition Lane.Lead =
-      sorted_map note_bar bar_in (note_bytes edition) (note_bar_lem edition) (take s.lead_count s.lead) (rises_sorted note_bar past_note s.lead s.lead_count 7 (lead_room s (sized s p)) p.lead.rises)
-  events_sorted edition Lane.Keys =
-      sorted_map note_bar bar_in (note_bytes edition) (note_bar_lem edition) (take s.keys_count s.keys) (rises_sorted note_bar past_note s.keys s.keys_count 7 (keys_room s (sized s p)) p.keys.rises)
-  events_sorted edition Lane.Hits =
-      sorted_map hit_bar bar_in hit_bytes hit_bar_lem (take s.hit_count s.hits) (rises_sorted hit_bar past_hit s.hits s.hit_count 7 (hits_room s (sized s p)) p.hits.rises)
-  events_sorted edition Lane.Bass =
-      sorted_map note_bar bar_in (note_bytes edition) (note_bar_lem edition) (take s.bass_count s.bass) (rises_sorted note_bar past_note s.bass s.bass_count 7 (bass_room s (sized s p)) p.bass.rises)
-
-  -- ---- events before a bar: the first i are
-  -- so is event i
-  pub before_on : (lane : Lane) (bar i : ℕ) → i < count_in s lane → i ≡ count (earlier bar) (take i (bars_of s lane)) → ltb (get_or (bars_of s lane) i 0) bar ≡ true
-      → i + 1 ≡ count (earlier bar) (take (i + 1) (bars_of s lane))
-  before_on lane bar i h c e =
-      let on = count_on (earlier bar) (bars_of s lane) i 0 (omega (arith, length_bars s (sized s p) lane)) in
-      sym (on ∙ rw e (omega (arith, c)))
-
-  -- event i is not, nor is any after it
-  pub before_first : (lane : Lane) (bar i : ℕ) → i < count_in s lane → i ≡ count (earlier bar) (take i (bars_of s lane)) → ltb (get_or (bars_of s lane) i 0) bar ≡ false
-      → i ≡ count (earlier bar) (bars_of s lane)
-  before_first lane bar i h c e = sym (below_first itself bar 0 (bars_of s lane) i (bars_sorted lane) (omega (arith, length_bars s (sized s p) lane)) (sym c) e)
-
-  -- nor are the first i of the next bar or later
-  pub before_next : (lane : Lane) (bar i : ℕ) → i ≤ count_in s lane → i ≡ count (earlier bar) (take i (bars_of s lane)) → i ≡ count (earlier (bar + 1)) (take i (bars_of s lane))
-  before_next lane bar i h c =
-      let bs = take i (bars_of s lane) in
-      omega (arith, c, count_below itself bar bs, count_most (earlier (bar + 1)) bs, length-take-le i (bars_of s lane) (omega (arith, h, length_bars s (sized s p) lane)))
-
-  -- there is no event i
-  pub before_last : (lane : Lane) (bar i : ℕ) → count_in s lane ≤ i → i ≡ count (earlier bar) (take i (bars_of s lane)) → i ≡ count (earlier bar) (bars_of s lane)
-  before_last lane bar i h c = c ∙ ap (count (earlier bar)) (take_all i (bars_of s lane) (omega (arith, length_bars s (sized s p) lane)))
+  events_sorted edition Lane.Lead = laid_sorted note_bar (note_bytes edition) (note_bar_lem edition) s.lead s.lead_count p.lead
+  events_sorted edition Lane.Keys = laid_sorted note_bar (note_bytes edition) (note_bar_lem edition) s.keys s.keys_count p.keys
+  events_sorted edition Lane.Hits = laid_sorted hit_bar hit_bytes hit_bar_lem s.hits s.hit_count p.hits
+  events_sorted edition Lane.Bass = laid_sorted note_bar (note_bytes edition) (note_bar_lem edition) s.bass s.bass_count p.bass
 
   -- the run of a bar's events is what was drawn for it
   pub run_drawn : (edition : Edition) (lane : Lane) (on : Bool) (bar : ℕ) → run_of (run_in s lane on bar) (events_of edition s lane) ≡ shown on (drawn_for bar (events_of edition s lane))
@@ -222,12 +175,10 @@ module _ (s : Score) (p : LanesPromise s) where
       rw (count_bars edition s lane bar, count_bars edition s lane (bar + 1)) (run_of_key bar_in bar (events_of edition s lane) (events_sorted edition lane))
   run_drawn edition lane false bar = refl
 
-  pub run_within : (lane : Lane) (on : Bool) (bar : ℕ) → InLane s lane (run_in s lane on bar)
-  unfolding run_in
-  run_within lane true bar =
+  pub run_within : (lane : Lane) (bar : ℕ) → InLane s lane (bar_run bar (bars_of s lane))
+  run_within lane bar =
       let bs = bars_of s lane in
       (omega (arith, count_below itself bar bs), omega (arith, count_most (earlier (bar + 1)) bs, length_bars s (sized s p) lane))
-  run_within lane false bar = (omega arith, omega arith)
 
   pub run_length : (edition : Edition) (lane : Lane) (on : Bool) (bar : ℕ) → (run_in s lane on bar).to - (run_in s lane on bar).from ≡ length (shown on (drawn_for bar (events_of edition s lane)))
   unfolding run_in

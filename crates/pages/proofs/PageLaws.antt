@@ -3,14 +3,12 @@
 use mathlib.Core.Path.{◌≡◌, refl, ap, ◌∙◌}
 use mathlib.Core.Bool.{Bool, true, false, cond}
 use mathlib.Core.List.{List, [], ◌++◌}
-use Prim.Native.Nat.{ℕ, zero, suc, ◌+◌, ◌*◌, ◌≤◌, ◌<◌}
+use Prim.Native.Nat.{ℕ, zero, suc, ◌+◌, ◌≤◌, ◌<◌}
 use native.Mathlib.Omega.{arith}
 use borrow.Author.Tests.{leb-false}
 use lib.Dec.{leb}
 use lib.ListN.{length, get_or, take, length-append, get_or-map}
 use Rattle.laws.specs.Lists.{joined}
-use Rattle.laws.specs.Writes.{Wrote}
-use Rattle.laws.proofs.Writes.{wrote_as}
 use Rattle.composer.specs.Chord.{past_chord}
 use Rattle.composer.specs.Compose.{composed_of, compose_of}
 use Rattle.composer.specs.Form.{loop_bar_of}
@@ -38,19 +36,17 @@ use Rattle.pages.specs.Bar.{shown}
 use Rattle.pages.specs.Bytes.{field}
 use Rattle.pages.specs.Edition.{edition_field, page_most}
 use Rattle.pages.specs.Hits.{page_hits, hits_field}
-use Rattle.pages.specs.Inner.Hits.{heard_runs_of}
-use Rattle.pages.specs.Lane.{tag_of, width_of, note_bytes, events_of, run_of, InLane, Held, run_size, drawn_for, run_in}
-use Rattle.pages.specs.Page.{Chorded, chord_field, bar_field, page_bytes, chord_size, bar_size, page_size, runs_in, runs_size, page_by, page_of, page_asked}
+use Rattle.pages.specs.Inner.Hits.{run_hits, heard_runs_of}
+use Rattle.pages.specs.Lane.{note_bytes, events_of, drawn_for}
+use Rattle.pages.specs.Page.{Chorded, chord_field, bar_field, page_bytes, chord_size, bar_size, page_size, runs_in, runs_bytes, runs_size, page_by, page_of, page_asked}
 use Rattle.pages.specs.declared.hits.HeardRuns.{HeardRuns}
 use Rattle.pages.specs.declared.edition.Edition.{Edition}
 use Rattle.pages.specs.declared.lane.Lane.{Lane}
-use Rattle.pages.specs.declared.lane.Run.{Run}
 use Rattle.pages.specs.declared.page.Runs.{Runs}
 use Rattle.pages.proofs.AnswerLaws.{asked_most}
 use Rattle.pages.proofs.BytesLaws.{length_field, edition_length}
-use Rattle.pages.proofs.HitsLaws.{hits_length, page_hits_most}
-use Rattle.pages.proofs.WritableLaws.{sized}
-use Rattle.pages.proofs.LaneLaws.{note_bar_lem, count_small, run_drawn, run_within, run_length, drawn_count, shown_most, shown_size}
+use Rattle.pages.proofs.HitsLaws.{hits_length, runs_hits, page_hits_most}
+use Rattle.pages.proofs.LaneLaws.{note_bar_lem, run_drawn, run_length, drawn_count, shown_most, shown_size}
 use Rattle.std.proofs.Common.{Result, Ok, Err}
 
 -- a bar's chord has four notes
@@ -91,10 +87,7 @@ page_length s q p bar hs h =
 
 -- ---- by the runs of its events
 module _ (s : Score) (promise : LanesPromise s) where
-  pub run_held : (lane : Lane) (on : Bool) (bar : ℕ) → Held (run_in s lane on bar)
-  run_held lane on bar = ((run_within s promise lane on bar).0, omega (arith, run_within s promise lane on bar, count_small s (sized s promise) lane))
-
-  pub runs_size_lem : (p : Plays) (bar hits : ℕ) → runs_size p.pad (runs_in s p bar) hits ≡ page_size s p bar hits
+  runs_size_lem : (p : Plays) (bar hits : ℕ) → runs_size p.pad (runs_in s p bar) hits ≡ page_size s p bar hits
   runs_size_lem p bar hits =
       rw (
         run_length s promise Edition.Two Lane.Lead p.keys bar,
@@ -102,22 +95,22 @@ module _ (s : Score) (promise : LanesPromise s) where
         run_length s promise Edition.Two Lane.Bass p.bass bar,
       )
 
-  -- what the runs of song bar b have in all is the page's size
-  pub size_is : (p : Plays) (f : Form) (b : ℕ) {bar n : ℕ} {runs : Runs} {hits : HeardRuns} → bar ≡ loop_bar_of f b → runs ≡ runs_in s p bar → hits ≡ heard_runs_of s f b → n ≡ runs_size p.pad runs hits.count
-      → n ≡ page_size s p (loop_bar_of f b) (length (page_hits s f b))
-  size_is p f b e r h size = size ∙ rw (r, e, h) (runs_size_lem p (loop_bar_of f b) (length (page_hits s f b)))
+  runs_bytes_lem : (p : Plays) (bar : ℕ) (hits : List Hit) → runs_bytes s p bar (runs_in s p bar) hits ≡ page_bytes s p bar hits
+  unfolding runs_bytes page_bytes
+  runs_bytes_lem p bar hits =
+      rw (
+        run_drawn s promise Edition.Two Lane.Lead p.keys bar,
+        run_drawn s promise Edition.Two Lane.Keys p.keys bar,
+        run_drawn s promise Edition.Two Lane.Bass p.bass bar,
+      )
 
-  -- a run that is the bar's: within its lane, and as many bytes
-  pub run_fits : (lane : Lane) (on : Bool) (bar : ℕ) (run : Run) → run ≡ run_in s lane on bar → InLane s lane run × (run_size lane run ≡ bar_size s lane on bar)
-  run_fits lane on bar run e = rw (e, run_length s promise Edition.Two lane on bar) (run_within s promise lane on bar, refl)
+  -- the runs of song bar b have in all the page's size, and its bytes
+  module _ (p : Plays) (f : Form) (b : ℕ) {bar : ℕ} {runs : Runs} {hits : HeardRuns} (e : bar ≡ loop_bar_of f b) (r : runs ≡ runs_in s p bar) (h : hits ≡ heard_runs_of s f b) where
+    pub size_is : {n : ℕ} → n ≡ runs_size p.pad runs hits.count → n ≡ page_size s p (loop_bar_of f b) (length (page_hits s f b))
+    size_is size = size ∙ rw (r, e, h) (runs_size_lem p (loop_bar_of f b) (length (page_hits s f b)))
 
-  -- and the bar's field
-  pub run_wrote : {b b' : List ℕ} {at r : ℕ} (lane : Lane) (on : Bool) (bar : ℕ) (run : Run) → run ≡ run_in s lane on bar
-      → Wrote b b' at r (3 + run_size lane run) (field (tag_of lane) (joined (run_of run (events_of Edition.Two s lane)))) → Wrote b b' at r (3 + bar_size s lane on bar) (bar_field s lane on bar)
-  run_wrote lane on bar run e =
-      wrote_as
-      (ap (λ (x : Run). 3 + run_size lane x) e ∙ ap (λ (n : ℕ). 3 + width_of Edition.Two lane * n) (run_length s promise Edition.Two lane on bar))
-      (ap (λ (x : Run). field (tag_of lane) (joined (run_of x (events_of Edition.Two s lane)))) e ∙ ap (λ (l : List (List ℕ)). field (tag_of lane) (joined l)) (run_drawn s promise Edition.Two lane on bar))
+    pub bytes_is : runs_bytes s p bar runs (run_hits s hits) ≡ page_bytes s p (loop_bar_of f b) (page_hits s f b)
+    bytes_is = rw (r, e, h, runs_hits s promise f b) (runs_bytes_lem p (loop_bar_of f b) (page_hits s f b))
 
 -- ---- at most
 chord_most : (on : Bool) → chord_size on ≤ 4

@@ -16,9 +16,10 @@ use Rattle.pages.specs.Bar.{shown}
 use Rattle.pages.specs.Bytes.{field}
 use Rattle.pages.specs.Edition.{edition_field, edition_size}
 use Rattle.pages.specs.Hits.{page_hits, hits_field}
-use Rattle.pages.specs.Lane.{tag_of, width_of, events_of, run_size, drawn_for, run_in}
+use Rattle.pages.specs.Lane.{tag_of, width_of, events_of, run_of, InLane, run_size, drawn_for, run_in}
 use Rattle.pages.specs.declared.edition.Edition.{Edition}
 use Rattle.pages.specs.declared.lane.Lane.{Lane}
+use Rattle.pages.specs.declared.lane.Run.{Run}
 use Rattle.pages.specs.declared.page.Runs.{Runs}
 use Rattle.composer.specs.declared.refusal.Refusal.{Refusal}
 
@@ -64,6 +65,24 @@ runs_in s p bar = record {
   keys = run_in s Lane.Keys p.keys bar;
   bass = run_in s Lane.Bass p.bass bar;
 }
+
+-- each stands in its lane
+pub record RunsWithin (s : Score) (runs : Runs) : Type 0 where
+  pub lead : InLane s Lane.Lead runs.lead
+  pub keys : InLane s Lane.Keys runs.keys
+  pub bass : InLane s Lane.Bass runs.bass
+
+abbrev pub run_field : Score → Lane → Run → List ℕ
+run_field s lane run = field (tag_of lane) (joined (run_of run (events_of Edition.Two s lane)))
+
+unfoldable pub runs_bytes : Score → Plays → ℕ → Runs → List Hit → List ℕ
+runs_bytes s p bar runs hits =
+    edition_field Edition.Two
+    ++ (chord_field s p.pad bar
+    ++ (run_field s Lane.Lead runs.lead
+    ++ (run_field s Lane.Keys runs.keys
+    ++ (hits_field hits
+    ++ run_field s Lane.Bass runs.bass))))
 
 abbrev pub runs_size : Bool → Runs → ℕ → ℕ
 runs_size pad runs hits =

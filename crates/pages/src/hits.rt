@@ -7,14 +7,16 @@ ghost use Rattle.composer.specs.Early.{is_early};
 ghost use Rattle.composer.specs.Promise.{LanesPromise};
 ghost use Rattle.pages.specs.Bar.{shown};
 ghost use Rattle.pages.specs.Hits.{hits_field};
-ghost use Rattle.pages.specs.Inner.Hits.{in_part, hits_in, own_part, run_hits, HitsWithin, heard_runs_of};
+ghost use Rattle.pages.specs.Inner.Hits.{in_part, hits_in, own_part, run_hits, HitsWithin, drum_run_of, heard_runs_of};
 ghost use Rattle.pages.specs.Lane.{hit_bytes, run_of, InLane};
 ghost use Rattle.pages.specs.Writable.{SizedLanes, FiniteHit, Writable};
 ghost use Rattle.pages.specs.declared.hits.Part.{Part};
 ghost use Rattle.pages.specs.declared.lane.Lane.{Lane};
 
 use crate::bar::plays_drums;
-use crate::lane::{Lane, Run, put_hit, run_in};
+use crate::edition::Edition;
+use crate::event::Event;
+use crate::lane::{Lane, Run, run_in};
 use crate::put::put_head;
 use composer::compose::beat_s_of;
 use composer::form::Form;
@@ -47,61 +49,32 @@ fn in_part(part: Part, beat_s: f32, h: Hit) -> bool
     }
 }
 
-fn one(on: bool) -> usize
-    ensures value { result ≡ cond on 1 0 }
-    ensures upper_bound { result ≤ 1 }
-{
-    if on { 1 } else { 0 }
-}
-
 // How many hits of a run are in a part.
-fn part_count(s: Score, run: Run, part: Part) -> usize
-    requires sized_lanes { SizedLanes s }
-    requires in_lane { InLane s Lane.Hits run }
-    ensures value { result ≡ length (hits_in s part (run_of run s.hits)) }
+fn part_count(s: &Score, run: Run, part: Part) -> usize
+    requires sized_lanes { SizedLanes s.now }
+    requires in_lane { InLane s.now Lane.Hits run }
+    ensures value { result ≡ length (hits_in s.now part (run_of run s.now.hits)) }
     ensures upper_bound { result ≤ 98 }
 {
-    let hits = s.hits;
     let beat_s = beat_s_of(s.bpm);
-    let mut n: usize = 0;
-    let mut i = run.from;
-    while i < run.to {
-        let hit = hits[i];
-        let on = in_part(part, beat_s, hit);
-        n += one(on);
-        i += 1;
-    }
-    n
-}
-
-// A hit, or nothing.
-fn put_shown(buf: &mut [u8], at: usize, h: Hit, on: bool) -> usize
-    requires finite_hit { FiniteHit h }
-    requires room { at + 10 * cond on 1 0 ≤ length buf.old }
-    ensures { Wrote buf.old buf.new at result (10 * cond on 1 0) (shown on (hit_bytes h)) }
-{
-    if !on {
-        return at;
-    }
-    put_hit(buf, at, h)
+    let hits = &s.hits[run.from..run.to];
+    hits.iter().filter(|h| in_part(part, beat_s, **h)).count()
 }
 
 // The hits of a run that are in a part.
-fn put_part(buf: &mut [u8], at: usize, s: Score, run: Run, part: Part) -> usize
-    requires writable { Writable s }
-    requires in_lane { InLane s Lane.Hits run }
-    requires room { at + 10 * length (hits_in s part (run_of run s.hits)) ≤ length buf.old }
-    ensures { Wrote buf.old buf.new at result (10 * length (hits_in s part (run_of run s.hits))) (joined (map hit_bytes (hits_in s part (run_of run s.hits)))) }
+fn put_part(buf: &mut [u8], at: usize, s: &Score, run: Run, part: Part) -> usize
+    requires writable { Writable s.now }
+    requires in_lane { InLane s.now Lane.Hits run }
+    requires room { at + 10 * length (hits_in s.now part (run_of run s.now.hits)) ≤ length buf.old }
+    ensures { Wrote buf.old buf.new at result (10 * length (hits_in s.now part (run_of run s.now.hits))) (joined (map hit_bytes (hits_in s.now part (run_of run s.now.hits)))) }
 {
-    let hits = s.hits;
     let beat_s = beat_s_of(s.bpm);
+    let hits = &s.hits[run.from..run.to];
     let mut o = at;
-    let mut i = run.from;
-    while i < run.to {
-        let hit = hits[i];
-        let on = in_part(part, beat_s, hit);
-        o = put_shown(buf, o, hit, on);
-        i += 1;
+    for h in hits {
+        if in_part(part, beat_s, *h) {
+            o = h.put(buf, o, Edition::Two);
+        }
     }
     o
 }
@@ -123,20 +96,27 @@ fn own_part(bar: u64) -> Part
     if bar == 0 { Part::All } else { Part::Late }
 }
 
+// Where the hits drawn for song bar `bar` stand in the lane.
+fn drum_run(s: &Score, f: Form, bar: u64) -> Run
+    requires { LanesPromise s.now }
+    ensures value { result ≡ drum_run_of s.now f bar }
+    ensures in_lane { InLane s.now Lane.Hits result }
+{
+    run_in(s, Lane::Hits, plays_drums(f, bar), f.loop_bar(bar))
+}
+
 // The hits of song bar `bar`'s page.
-pub(crate) fn heard_runs(s: Score, f: Form, bar: u64) -> HeardRuns
-    requires lanes_promise { LanesPromise s }
+#[tactic(auto, using(crate::proofs::HitsLaws::runs_count))]
+pub(crate) fn heard_runs(s: &Score, f: Form, bar: u64) -> HeardRuns
+    requires lanes_promise { LanesPromise s.now }
     requires bar_lt_bars { bar < f.bars }
-    ensures value { result ≡ heard_runs_of s f bar }
+    ensures value { result ≡ heard_runs_of s.now f bar }
+    ensures within { HitsWithin s.now result }
     ensures count_bound { result.count ≤ 196 }
 {
-    let on = plays_drums(f, bar);
-    let looped = f.loop_bar(bar);
-    let own = run_in(s, Lane::Hits, on, looped);
+    let own = drum_run(s, f, bar);
     let part = own_part(bar);
-    let on_next = plays_drums(f, bar + 1);
-    let looped_next = f.loop_bar(bar + 1);
-    let next = run_in(s, Lane::Hits, on_next, looped_next);
+    let next = drum_run(s, f, bar + 1);
     let count = part_count(s, own, part) + part_count(s, next, Part::Early);
     HeardRuns {
         own: own,
@@ -147,17 +127,14 @@ pub(crate) fn heard_runs(s: Score, f: Form, bar: u64) -> HeardRuns
 }
 
 // 0x07: a page's hits.
-pub(crate) fn put_page_hits(buf: &mut [u8], at: usize, s: Score, h: HeardRuns) -> usize
-    requires writable { Writable s }
-    requires hits_within { HitsWithin s h }
+pub(crate) fn put_page_hits(buf: &mut [u8], at: usize, s: &Score, h: HeardRuns) -> usize
+    requires writable { Writable s.now }
+    requires hits_within { HitsWithin s.now h }
     requires count_bound { h.count ≤ 196 }
     requires room { at + (3 + 10 * h.count) ≤ length buf.old }
-    ensures { Wrote buf.old buf.new at result (3 + 10 * h.count) (hits_field (run_hits s h)) }
+    ensures { Wrote buf.old buf.new at result (3 + 10 * h.count) (hits_field (run_hits s.now h)) }
 {
-    let own = h.own;
-    let part = h.part;
-    let next = h.next;
     let a = put_head(buf, at, 0x07, 10 * h.count);
-    let b = put_part(buf, a, s, own, part);
-    put_part(buf, b, s, next, Part::Early)
+    let b = put_part(buf, a, s, h.own, h.part);
+    put_part(buf, b, s, h.next, Part::Early)
 }

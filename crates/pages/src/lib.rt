@@ -4,6 +4,7 @@
 pub mod answer;
 pub mod bar;
 pub mod edition;
+pub mod event;
 pub mod get;
 pub mod hits;
 pub mod lane;

@@ -7,8 +7,8 @@ ghost use Rattle.pages.specs.Answer.{Writes, written_of, buffer_of};
 ghost use Rattle.pages.specs.Hits.{page_hits};
 ghost use Rattle.pages.specs.Inner.Hits.{run_hits, HitsWithin};
 ghost use Rattle.pages.specs.Lane.{run_size, Held};
-ghost use Rattle.pages.specs.Page.{Chorded, chord_size, chord_field, runs_in, runs_size, page_size, page_bytes, page_of, page_asked};
-ghost use Rattle.pages.specs.Writable.{Paged};
+ghost use Rattle.pages.specs.Page.{Chorded, chord_size, chord_field, runs_in, RunsWithin, runs_size, runs_bytes, page_bytes, page_of, page_asked};
+ghost use Rattle.pages.specs.Writable.{Writable, Paged};
 
 use crate::edition::{Edition, put_edition};
 use crate::hits::{HeardRuns, heard_runs, put_page_hits};
@@ -31,20 +31,18 @@ fn chord_size(on: bool) -> usize
 }
 
 // 0x03: the bar's chord, or nothing where the pad is silent.
-fn put_chord(buf: &mut [u8], at: usize, s: Score, on: bool, bar: u8) -> usize
-    requires chorded { Chorded s }
+fn put_chord(buf: &mut [u8], at: usize, s: &Score, on: bool, bar: u8) -> usize
+    requires chorded { Chorded s.now }
     requires bar_bound { bar < 8 }
     requires room { at + (3 + chord_size on) ≤ length buf.old }
-    ensures { Wrote buf.old buf.new at result (3 + chord_size on) (chord_field s on bar) }
+    ensures { Wrote buf.old buf.new at result (3 + chord_size on) (chord_field s.now on bar) }
 {
     if !on {
         return put_head(buf, at, 0x03, 0);
     }
-    let bars = s.bar_chords;
-    let chords = bar_chords(bars);
-    let notes = chords[bar as usize];
+    let chords = bar_chords(s.bar_chords);
     let a = put_head(buf, at, 0x03, 4);
-    put_bytes(buf, a, &notes)
+    put_bytes(buf, a, &chords[bar as usize])
 }
 
 // Where the notes of one loop bar stand in each lane.
@@ -56,18 +54,15 @@ pub struct Runs {
 }
 
 // Lead and keys both follow the keys' layer.
-fn runs_in(s: Score, p: Plays, bar: u8) -> Runs
-    requires lanes_promise { LanesPromise s }
-    requires bar_bound { bar < 8 }
-    ensures { result ≡ runs_in s p bar }
+fn runs_in(s: &Score, p: Plays, bar: u8) -> Runs
+    requires { LanesPromise s.now }
+    ensures value { result ≡ runs_in s.now p bar }
+    ensures within { RunsWithin s.now result }
 {
-    let lead = run_in(s, Lane::Lead, p.keys, bar);
-    let keys = run_in(s, Lane::Keys, p.keys, bar);
-    let bass = run_in(s, Lane::Bass, p.bass, bar);
     Runs {
-        lead: lead,
-        keys: keys,
-        bass: bass,
+        lead: run_in(s, Lane::Lead, p.keys, bar),
+        keys: run_in(s, Lane::Keys, p.keys, bar),
+        bass: run_in(s, Lane::Bass, p.bass, bar),
     }
 }
 
@@ -77,8 +72,7 @@ fn run_size(lane: Lane, run: Run) -> usize
     ensures value { result ≡ run_size lane run }
     ensures upper_bound { result < 65536 }
 {
-    let width = lane.width(Edition::Two);
-    width * (run.to - run.from)
+    lane.width(Edition::Two) * (run.to - run.from)
 }
 
 fn page_size(pad: bool, runs: Runs, hits: usize) -> usize
@@ -86,48 +80,45 @@ fn page_size(pad: bool, runs: Runs, hits: usize) -> usize
     requires hits_bound { hits ≤ 196 }
     ensures { result ≡ runs_size pad runs hits }
 {
-    let lead = runs.lead;
-    let keys = runs.keys;
-    let bass = runs.bass;
-    let edition = Edition::Two;
-    let first = edition.field_size();
-    let chord_bytes = chord_size(pad);
-    let lead_bytes = run_size(Lane::Lead, lead);
-    let keys_bytes = run_size(Lane::Keys, keys);
-    let bass_bytes = run_size(Lane::Bass, bass);
-    first + 15 + chord_bytes + lead_bytes + keys_bytes + 10 * hits + bass_bytes
+    let lead = run_size(Lane::Lead, runs.lead);
+    let keys = run_size(Lane::Keys, runs.keys);
+    let bass = run_size(Lane::Bass, runs.bass);
+    Edition::Two.field_size() + 15 + chord_size(pad) + lead + keys + 10 * hits + bass
 }
 
 // The page by the runs of one loop bar's notes, and of the hits that are heard in it.
-fn put_page(buf: &mut [u8], s: Score, p: Plays, runs: Runs, hits: HeardRuns, bar: u8) -> usize
-    requires paged { Paged s }
-    requires chorded { Chorded s }
+fn put_page(buf: &mut [u8], s: &Score, p: Plays, runs: Runs, hits: HeardRuns, bar: u8) -> usize
+    requires writable { Writable s.now }
+    requires chorded { Chorded s.now }
     requires bar_bound { bar < 8 }
-    requires runs_value { runs ≡ runs_in s p bar }
-    requires hits_within { HitsWithin s hits }
+    requires runs_within { RunsWithin s.now runs }
+    requires hits_within { HitsWithin s.now hits }
     requires count_bound { hits.count ≤ 196 }
-    requires room { page_size s p bar hits.count ≤ length buf.old }
-    ensures { Wrote buf.old buf.new 0 result (page_size s p bar hits.count) (page_bytes s p bar (run_hits s hits)) }
+    requires room { runs_size p.pad runs hits.count ≤ length buf.old }
+    ensures { Wrote buf.old buf.new 0 result (runs_size p.pad runs hits.count) (runs_bytes s.now p bar runs (run_hits s.now hits)) }
 {
-    let lead = runs.lead;
-    let keys = runs.keys;
-    let bass = runs.bass;
     let z = put_edition(buf, 0, Edition::Two);
     let a = put_chord(buf, z, s, p.pad, bar);
-    let b = put_run(buf, a, Edition::Two, s, Lane::Lead, lead);
-    let c = put_run(buf, b, Edition::Two, s, Lane::Keys, keys);
+    let b = put_run(buf, a, Edition::Two, s, Lane::Lead, runs.lead);
+    let c = put_run(buf, b, Edition::Two, s, Lane::Keys, runs.keys);
     let d = put_page_hits(buf, c, s, hits);
-    put_run(buf, d, Edition::Two, s, Lane::Bass, bass)
+    put_run(buf, d, Edition::Two, s, Lane::Bass, runs.bass)
 }
 
 // The page of a song bar, if the buffer is as long as this very page. The layers that play are known, but for the
 // hits: they are of two bars, and are looked up.
-fn page_into(s: Score, f: Form, p: Plays, bar: u64, buf: &mut [u8]) -> Result<usize, Refusal>
-    requires paged { Paged s }
-    requires chorded { Chorded s }
+fn page_into(
+    s: &Score,
+    f: Form,
+    p: Plays,
+    bar: u64,
+    buf: &mut [u8],
+) -> Result<usize, Refusal>
+    requires paged { Paged s.now }
+    requires chorded { Chorded s.now }
     requires bar_lt_bars { bar < f.bars }
-    ensures value { result ≡ written_of (length buf.old) (Writes (page_bytes s p (loop_bar_of f bar) (page_hits s f bar))) }
-    ensures buf_after { buf.new ≡ buffer_of buf.old (Writes (page_bytes s p (loop_bar_of f bar) (page_hits s f bar))) }
+    ensures value { result ≡ written_of (length buf.old) (Writes (page_bytes s.now p (loop_bar_of f bar) (page_hits s.now f bar))) }
+    ensures buf_after { buf.new ≡ buffer_of buf.old (Writes (page_bytes s.now p (loop_bar_of f bar) (page_hits s.now f bar))) }
 {
     let looped = f.loop_bar(bar);
     let hits = heard_runs(s, f, bar);
@@ -151,7 +142,7 @@ fn page_of(s: Score, f: Form, bar: u64, buf: &mut [u8]) -> Result<usize, Refusal
     let Ok(p) = a else {
         return a.and(Ok(0));
     };
-    page_into(s, f, p, bar, buf)
+    page_into(&s, f, p, bar, buf)
 }
 
 // The page of song bar `bar` of a seed's song in style 0 or 1, from the buffer's first byte on, and its

@@ -75,10 +75,7 @@ pub fn put_bytes(buf: &mut [u8], at: usize, bytes: &[u8]) -> usize
     requires { at + length bytes.now ≤ length buf.old }
     ensures { Wrote buf.old buf.new at result (length bytes.now) bytes.now }
 {
-    let mut i: usize = 0;
-    while i < bytes.len() {
-        buf[at + i] = bytes[i];
-        i += 1;
-    }
-    at + i
+    let end = at + bytes.len();
+    buf[at..end].copy_from_slice(bytes);
+    end
 }

@@ -19,54 +19,45 @@ use composer::refusal::Refusal;
 use composer::score::Score;
 
 // 0x01: style, seed, lead voice.
-fn put_name(buf: &mut [u8], at: usize, seed: u64, s: Score) -> usize
+fn put_name(buf: &mut [u8], at: usize, seed: u64, s: &Score) -> usize
     requires { at + 13 ≤ length buf.old }
-    ensures { Wrote buf.old buf.new at result 13 (name_field seed s) }
+    ensures { Wrote buf.old buf.new at result 13 (name_field seed s.now) }
 {
-    let style = s.style;
-    let number = style.number();
-    let voice = s.lead_voice;
-    let voice_number = voice.number();
     let a = put_head(buf, at, 0x01, 10);
-    let b = put_u8(buf, a, number);
+    let b = put_u8(buf, a, s.style.number());
     let c = put_u64(buf, b, seed);
-    put_u8(buf, c, voice_number)
+    put_u8(buf, c, s.lead_voice.number())
 }
 
 // 0x02: tempo.
-fn put_tempo(buf: &mut [u8], at: usize, s: Score) -> usize
-    requires finite_events { FiniteEvents s }
+fn put_tempo(buf: &mut [u8], at: usize, s: &Score) -> usize
+    requires finite_events { FiniteEvents s.now }
     requires room { at + 7 ≤ length buf.old }
-    ensures { Wrote buf.old buf.new at result 7 (tempo_field s) }
+    ensures { Wrote buf.old buf.new at result 7 (tempo_field s.now) }
 {
     let a = put_head(buf, at, 0x02, 4);
     put_f32(buf, a, s.bpm)
 }
 
 // Eight chords of four notes.
-fn put_eight(buf: &mut [u8], at: usize, chords: [[u8; 4]; 8]) -> usize
+fn put_eight(buf: &mut [u8], at: usize, chords: &[[u8; 4]; 8]) -> usize
     requires { at + 32 ≤ length buf.old }
-    ensures { Wrote buf.old buf.new at result 32 (joined chords) }
+    ensures { Wrote buf.old buf.new at result 32 (joined chords.now) }
 {
     let mut o = at;
-    let mut b: usize = 0;
-    while b < 8 {
-        let notes = chords[b];
-        o = put_bytes(buf, o, &notes);
-        b += 1;
+    for notes in chords {
+        o = put_bytes(buf, o, notes);
     }
     o
 }
 
 // 0x03: eight chords.
-fn put_chords(buf: &mut [u8], at: usize, s: Score) -> usize
+fn put_chords(buf: &mut [u8], at: usize, s: &Score) -> usize
     requires { at + 35 ≤ length buf.old }
-    ensures { Wrote buf.old buf.new at result 35 (chords_field s) }
+    ensures { Wrote buf.old buf.new at result 35 (chords_field s.now) }
 {
-    let bars = s.bar_chords;
-    let chords = bar_chords(bars);
     let a = put_head(buf, at, 0x03, 32);
-    put_eight(buf, a, chords)
+    put_eight(buf, a, &bar_chords(s.bar_chords))
 }
 
 // 0x04: melody scale.
@@ -75,18 +66,16 @@ fn put_scale(buf: &mut [u8], at: usize, scale: Scale) -> usize
     requires room { at + (3 + scale.n) ≤ length buf.old }
     ensures { Wrote buf.old buf.new at result (3 + scale.n) (scale_field scale) }
 {
-    let pcs = scale.pcs;
-    let n = scale.n;
-    let a = put_head(buf, at, 0x04, n);
-    put_bytes(buf, a, &pcs[..n])
+    let a = put_head(buf, at, 0x04, scale.n);
+    put_bytes(buf, a, &scale.pcs[..scale.n])
 }
 
 // What a song is before its events.
-fn put_song(buf: &mut [u8], at: usize, seed: u64, s: Score, scale: Scale) -> usize
-    requires finite_events { FiniteEvents s }
+fn put_song(buf: &mut [u8], at: usize, seed: u64, s: &Score, scale: Scale) -> usize
+    requires finite_events { FiniteEvents s.now }
     requires n_bound { scale.n ≤ 6 }
     requires room { at + (58 + scale.n) ≤ length buf.old }
-    ensures { Wrote buf.old buf.new at result (58 + scale.n) (song_bytes seed s scale) }
+    ensures { Wrote buf.old buf.new at result (58 + scale.n) (song_bytes seed s.now scale) }
 {
     let a = put_name(buf, at, seed, s);
     let b = put_tempo(buf, a, s);
@@ -94,39 +83,29 @@ fn put_song(buf: &mut [u8], at: usize, seed: u64, s: Score, scale: Scale) -> usi
     put_scale(buf, c, scale)
 }
 
-// 0x05 to 0x08: the lanes, each a run of all its events. A function for a whole lane would stay one where sheets of
-// both editions are written, and copy the score at each of four calls.
-fn put_lanes(buf: &mut [u8], at: usize, edition: Edition, s: Score) -> usize
-    requires writable { Writable s }
-    requires room { at + lanes_size edition s ≤ length buf.old }
-    ensures { Wrote buf.old buf.new at result (lanes_size edition s) (lanes_bytes edition s) }
+// A whole lane: a run of all its events.
+fn put_lane(buf: &mut [u8], at: usize, edition: Edition, s: &Score, lane: Lane) -> usize
+    requires writable { Writable s.now }
+    requires room { at + (3 + lane_size edition s.now lane) ≤ length buf.old }
+    ensures { Wrote buf.old buf.new at result (3 + lane_size edition s.now lane) (lane_field edition s.now lane) }
 {
-    let lead = Run {
+    let all = Run {
         from: 0,
-        to: s.lead_count,
+        to: lane.count(s),
     };
-    let keys = Run {
-        from: 0,
-        to: s.keys_count,
-    };
-    let hits = Run {
-        from: 0,
-        to: s.hit_count,
-    };
-    let bass = Run {
-        from: 0,
-        to: s.bass_count,
-    };
-    let a = put_run(buf, at, edition, s, Lane::Lead, lead);
-    let b = put_run(buf, a, edition, s, Lane::Keys, keys);
-    let c = put_run(buf, b, edition, s, Lane::Hits, hits);
-    put_run(buf, c, edition, s, Lane::Bass, bass)
+    put_run(buf, at, edition, s, lane, all)
 }
 
-fn flag(on: bool) -> u8
-    ensures { result ≡ cond on 1 0 }
+// 0x05 to 0x08: the lanes.
+fn put_lanes(buf: &mut [u8], at: usize, edition: Edition, s: &Score) -> usize
+    requires writable { Writable s.now }
+    requires room { at + lanes_size edition s.now ≤ length buf.old }
+    ensures { Wrote buf.old buf.new at result (lanes_size edition s.now) (lanes_bytes edition s.now) }
 {
-    if on { 1 } else { 0 }
+    let a = put_lane(buf, at, edition, s, Lane::Lead);
+    let b = put_lane(buf, a, edition, s, Lane::Keys);
+    let c = put_lane(buf, b, edition, s, Lane::Hits);
+    put_lane(buf, c, edition, s, Lane::Bass)
 }
 
 // 0x09: how the song begins and ends.
@@ -134,15 +113,13 @@ fn put_ends(buf: &mut [u8], at: usize, f: Form) -> usize
     requires { at + 9 ≤ length buf.old }
     ensures { Wrote buf.old buf.new at result 9 (ends_field f) }
 {
-    let intro = f.intro;
-    let outro = f.outro;
-    let intro_code = intro.code();
-    let intro_bars = intro.bars();
-    let outro_code = outro.code();
-    let outro_bars = outro.bars();
-    let dip = flag(f.dip);
     let body = [
-        intro_code, intro_bars, f.phrases, outro_code, outro_bars, dip,
+        f.intro.code(),
+        f.intro.bars(),
+        f.phrases,
+        f.outro.code(),
+        f.outro.bars(),
+        u8::from(f.dip),
     ];
     let a = put_head(buf, at, 0x09, 6);
     put_bytes(buf, a, &body)
@@ -154,15 +131,9 @@ fn put_bars(buf: &mut [u8], at: usize, f: Form) -> usize
     requires room { at + f.bars ≤ length buf.old }
     ensures { Wrote buf.old buf.new at result f.bars (plays_bytes f) }
 {
-    let plays = f.plays;
-    let n = f.bars as usize;
     let mut o = at;
-    let mut b: usize = 0;
-    while b < n {
-        let p = plays[b];
-        let bits = p.bits();
-        o = put_u8(buf, o, bits);
-        b += 1;
+    for p in &f.plays[..f.bars as usize] {
+        o = put_u8(buf, o, p.bits());
     }
     o
 }
@@ -188,28 +159,25 @@ fn put_form(buf: &mut [u8], at: usize, f: Form) -> usize
 }
 
 // The bytes of a lane's events.
-fn lane_size(edition: Edition, s: Score, lane: Lane) -> usize
-    requires { SizedLanes s }
-    ensures value { result ≡ lane_size edition s lane }
+fn lane_size(edition: Edition, s: &Score, lane: Lane) -> usize
+    requires { SizedLanes s.now }
+    ensures value { result ≡ lane_size edition s.now lane }
     ensures upper_bound { result < 65536 }
 {
-    let width = lane.width(edition);
-    let n = lane.count(s);
-    width * n
+    lane.width(edition) * lane.count(s)
 }
 
 // Its length.
-pub fn sheet_size(edition: Edition, s: Score, scale: Scale, f: Form) -> usize
-    requires sized_lanes { SizedLanes s }
+pub fn sheet_size(edition: Edition, s: &Score, scale: Scale, f: Form) -> usize
+    requires sized_lanes { SizedLanes s.now }
     requires capacities { (scale.n ≤ 6) × (f.bars ≤ 64) }
-    ensures { result ≡ sheet_size edition s scale f }
+    ensures { result ≡ sheet_size edition s.now scale f }
 {
-    let first = edition.field_size();
     let lead = lane_size(edition, s, Lane::Lead);
     let keys = lane_size(edition, s, Lane::Keys);
     let hits = lane_size(edition, s, Lane::Hits);
     let bass = lane_size(edition, s, Lane::Bass);
-    first + 82 + scale.n + lead + keys + hits + bass + f.bars as usize
+    edition.field_size() + 82 + scale.n + lead + keys + hits + bass + f.bars as usize
 }
 
 // A song and its form, from the start of a buffer that is long enough.
@@ -217,14 +185,14 @@ pub fn put_sheet(
     buf: &mut [u8],
     edition: Edition,
     seed: u64,
-    s: Score,
+    s: &Score,
     scale: Scale,
     f: Form,
 ) -> usize
-    requires writable { Writable s }
+    requires writable { Writable s.now }
     requires capacities { (scale.n ≤ 6) × (f.bars ≤ 64) }
-    requires room { sheet_size edition s scale f ≤ length buf.old }
-    ensures { Wrote buf.old buf.new 0 result (sheet_size edition s scale f) (sheet_bytes edition seed s scale f) }
+    requires room { sheet_size edition s.now scale f ≤ length buf.old }
+    ensures { Wrote buf.old buf.new 0 result (sheet_size edition s.now scale f) (sheet_bytes edition seed s.now scale f) }
 {
     let z = put_edition(buf, 0, edition);
     let a = put_song(buf, z, seed, s, scale);
@@ -247,11 +215,11 @@ pub fn sheet_into(
     ensures value { result ≡ written_of (length buf.old) (Writes (sheet_bytes edition seed s scale f)) }
     ensures buf_after { buf.new ≡ buffer_of buf.old (Writes (sheet_bytes edition seed s scale f)) }
 {
-    let size = sheet_size(edition, s, scale, f);
+    let size = sheet_size(edition, &s, scale, f);
     if buf.len() < size {
         return Err(Refusal::ShortBuffer);
     }
-    Ok(put_sheet(buf, edition, seed, s, scale, f))
+    Ok(put_sheet(buf, edition, seed, &s, scale, f))
 }
 
 // The sheet of a seed in an edition, of what `compose` gave for it: who needs a song in both editions composes once.

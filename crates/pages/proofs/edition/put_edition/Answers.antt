@@ -1,16 +1,8 @@
 -- The first edition has no field, the second's says 2. Assumes nothing.
 use native.Mathlib.Omega.{arith}
-use Rattle.laws.proofs.Writes.{wrote_none, wrote_length, wrote_then}
+use Rattle.laws.proofs.Writes.{wrote_none, wrote_then}
 use Rattle.pages.specs.Bytes.{field}
 use Rattle.pages.proofs.edition.put_edition.Goals as goal
-
-pub put_head-a-requires : goal.put_head-a-requires
-put_head-a-requires c = record { size_bound = omega arith; room = omega (arith, rw c.in-Two.is at c.requires) }
-
-pub put_u8-requires : goal.put_u8-requires
-put_u8-requires c =
-    let w = c.put_head-a.ensures in
-    omega (arith, w.next, wrote_length w, rw c.in-Two.is at c.requires)
 
 pub returns-in-One : goal.returns-in-One
 returns-in-One c =

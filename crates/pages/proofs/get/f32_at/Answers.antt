@@ -11,6 +11,3 @@ pub float_from_bits-result : goal.float_from_bits-result
 float_from_bits-result c =
     let n = c.u32_at-n.result in
     subst (λ (b : Bool). T (not b)) (sym (nan_bits_is binary32 n)) (no_nan (of_bits binary32 n) (rw c.u32_at-n.ensures c.requires.finite))
-
-pub returns : goal.returns
-returns c = rw c.u32_at-n.ensures

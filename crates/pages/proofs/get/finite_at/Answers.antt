@@ -11,7 +11,7 @@ use Rattle.pages.proofs.get.finite_at.Goals as goal
 
 pub returns-then-a-lt127 : goal.returns-then-a-lt127
 returns-then-a-lt127 c =
-    let few = c.shared_slice_known-1.given in
+    let few = c.type_inv.bytes in
     let x = byte_at c.args.bytes.now c.args.at in
     let y = byte_at c.args.bytes.now (c.args.at + 1) in
     let small : x < 127 = omega (arith, c.if-a-lt127.true, c.byte_in-a.ensures) in
@@ -21,7 +21,7 @@ returns-then-a-lt127 c =
 
 pub returns : goal.returns
 returns c =
-    let few = c.shared_slice_known-1.given in
+    let few = c.type_inv.bytes in
     let low : be16_at c.args.bytes.now (c.args.at + 2) < 65536 = omega (arith, few (c.args.at + 2), few (c.args.at + 2 + 1)) in
     rw (c.byte_in-b.ensures, c.byte_in-a.ensures)
     (finite_first (byte_at c.args.bytes.now c.args.at) (byte_at c.args.bytes.now (c.args.at + 1)) (be16_at c.args.bytes.now (c.args.at + 2)) (omega (arith, few c.args.at)) (omega (arith, few (c.args.at + 1))) low)

@@ -1,60 +1,33 @@
--- After the turns up to i those of the run before i are written; a turn writes one more, or none. Assumes nothing.
-use mathlib.Core.Path.{◌≡◌, refl}
-use Prim.Native.Nat.{◌+◌, ◌-◌, ◌*◌, ◌≤◌}
+-- A turn writes one hit more, if it is in the part. Assumes nothing.
+use mathlib.Core.Path.{sym, ◌∙◌}
+use Prim.Native.Nat.{◌+◌, ◌*◌, ◌≤◌}
 use native.Mathlib.Omega.{arith}
-use lib.ListN.{length, take, drop}
+use lib.ListN.{length}
 use Rattle.laws.specs.Lists.{joined, filter_of}
-use Rattle.laws.proofs.Filters.{filter_run_count, filter_fewer}
-use Rattle.laws.proofs.Writes.{wrote_none, wrote_length}
-use Rattle.composer.specs.Note.{past_hit}
+use Rattle.laws.proofs.Writes.{wrote_none}
 use Rattle.pages.specs.Inner.Hits.{in_part}
-use Rattle.pages.proofs.HitsLaws.{part_wrote}
+use Rattle.pages.specs.Lane.{run_of}
+use Rattle.pages.proofs.HitsLaws.{passed_no, passed_room, passed_wrote}
 use Rattle.pages.proofs.hits.put_part.Goals as goal
+use Rattle.pages.proofs.hits.put_part.Goals.{then-in_part, else-in_part}
 
-pub loop-i-init : goal.loop-i-init
+pub loop-h-init : goal.loop-h-init
 unfolding filter_of joined
-loop-i-init c =
-    let e : c.args.run.from - c.args.run.from ≡ 0 = omega arith in
-    (omega arith, omega arith, refl, rw e (wrote_none c.args.buf.now c.args.at (omega arith)))
+loop-h-init c = wrote_none c.args.buf.now c.args.at (omega arith)
 
-pub offset_bounds-hits-i : goal.offset_bounds-hits-i
-offset_bounds-hits-i c = omega (arith, c.requires.writable.lanes.hits.few)
-
-pub bounds-hits-i : goal.bounds-hits-i
-bounds-hits-i c = omega (arith, c.requires.writable.lanes.hits.few)
-
-pub put_shown-o-requires : goal.put_shown-o-requires
-put_shown-o-requires c =
-    let l = c.loop-i in
-    let p = c.requires.writable.lanes.hits in
+pub put-o-requires-clause-room : goal.put-o-requires-clause-room
+put-o-requires-clause-room c =
     let test = in_part c.args.part c.beat_s_of-beat_s.result in
-    let most : c.args.at + 10 * length (filter_of test (take (c.args.run.to - c.args.run.from) (drop c.args.run.from c.args.s.hits))) ≤ length c.args.buf.now = rw c.beat_s_of-beat_s.ensures c.requires.room in
-    let more = filter_run_count test c.args.s.hits c.args.run.from l.i past_hit l.invariant.0 (omega (arith, p.few, p.size)) in
-    let fewer = filter_fewer test (drop c.args.run.from c.args.s.hits) (l.i + 1 - c.args.run.from) (c.args.run.to - c.args.run.from) (omega arith) in
-    record { finite_hit = c.requires.writable.numbers.hits l.i (omega arith); room = rw c.in_part-on.ensures (omega (arith, l.invariant.3.next, more, fewer, most)) }
+    let hits = run_of c.args.run c.args.s.now.hits in
+    let most : c.args.at + 10 * length (filter_of test hits) ≤ length c.args.buf.now = rw c.beat_s_of-beat_s.ensures c.requires.room in
+    omega (arith, c.loop-h.invariant.next, passed_room test hits c.loop-h.h-index _ (omega arith) (sym c.in_part.ensures ∙ c.if-in_part.true))
 
-pub overflow_add-i : goal.overflow_add-i
-overflow_add-i c = omega (arith, c.requires.writable.lanes.hits.few)
-
-pub loop-i-smaller : goal.loop-i-smaller
-loop-i-smaller c = omega arith
-
-pub loop-i-preserved : goal.loop-i-preserved
-loop-i-preserved c =
-    let l = c.loop-i in
-    let p = c.requires.writable.lanes.hits in
-    let wrote = rw c.in_part-on.ensures at c.put_shown-o.ensures in (
-      omega arith,
-      omega arith,
-      omega (arith, wrote_length c.put_shown-o.ensures),
-      part_wrote (in_part c.args.part c.beat_s_of-beat_s.result) c.args.s.hits c.args.run.from l.i l.invariant.0 (omega (arith, p.few, p.size)) l.invariant.3 wrote,
-    )
-
-pub shape_of-buf : goal.shape_of-buf
-shape_of-buf c = omega arith
-
-pub returns : goal.returns
-returns c =
-    let l = c.loop-i in
-    let e : l.i ≡ c.args.run.to = omega arith in
-    rw (← e, ← c.beat_s_of-beat_s.ensures) l.invariant.3
+pub loop-h-preserved : goal.loop-h-preserved
+loop-h-preserved c =
+    let test = in_part c.args.part c.beat_s_of-beat_s.result in
+    let hits = run_of c.args.run c.args.s.now.hits in
+    let i = c.loop-h.h-index in
+    elim c.if-in_part.branch [
+      | then-in_part w ↦ rw (w.buf-is, w.o-is) (passed_wrote test hits i _ (omega arith) (sym c.in_part.ensures ∙ w.if-in_part.true) c.loop-h.invariant w.put-o.ensures)
+      | else-in_part w ↦ rw (w.buf-is, w.o-is, passed_no test hits i _ (omega arith) (sym c.in_part.ensures ∙ w.if-in_part.false)) c.loop-h.invariant
+    ]

@@ -1,14 +1,16 @@
 -- One case for each lane. Assumes nothing.
+use Rattle.composer.specs.Note.{note_bar, hit_bar}
+use Rattle.pages.proofs.LaneLaws.{never_fall}
 use Rattle.pages.proofs.lane.bar_run.Goals as goal
 
-pub returns-in-Lead : goal.returns-in-Lead
-returns-in-Lead c = rw c.in-Lead.is c.lead_run.ensures
+pub run_of_bar-requires : goal.run_of_bar-requires
+run_of_bar-requires c = never_fall note_bar c.args.s.now.lead c.args.s.now.lead_count c.requires.lead
 
-pub returns-in-Keys : goal.returns-in-Keys
-returns-in-Keys c = rw c.in-Keys.is c.keys_run.ensures
+pub run_of_bar-requires-in-Keys : goal.run_of_bar-requires-in-Keys
+run_of_bar-requires-in-Keys c = never_fall note_bar c.args.s.now.keys c.args.s.now.keys_count c.requires.keys
 
-pub returns-in-Hits : goal.returns-in-Hits
-returns-in-Hits c = rw c.in-Hits.is c.hits_run.ensures
+pub run_of_bar-requires-in-Hits : goal.run_of_bar-requires-in-Hits
+run_of_bar-requires-in-Hits c = never_fall hit_bar c.args.s.now.hits c.args.s.now.hit_count c.requires.hits
 
-pub returns-in-Bass : goal.returns-in-Bass
-returns-in-Bass c = rw c.in-Bass.is c.bass_run.ensures
+pub run_of_bar-requires-in-Bass : goal.run_of_bar-requires-in-Bass
+run_of_bar-requires-in-Bass c = never_fall note_bar c.args.s.now.bass c.args.s.now.bass_count c.requires.bass

@@ -1,30 +1,17 @@
--- One case for each lane. Assumes nothing.
+-- The events in use are finite. Assumes nothing.
+use Rattle.composer.specs.Note.{past_note, past_hit}
+use Rattle.pages.specs.Writable.{FiniteNote, FiniteHit}
+use Rattle.pages.proofs.LaneLaws.{each_taken}
 use Rattle.pages.proofs.lane.put_events.Goals as goal
 
-pub put_lead-requires : goal.put_lead-requires
-put_lead-requires c = record { writable = c.requires.writable; in_lane = rw c.in-Lead.is at c.requires.in_lane; room = rw c.in-Lead.is at c.requires.room }
+pub put_each-requires-clause-finite : goal.put_each-requires-clause-finite
+put_each-requires-clause-finite c = each_taken FiniteNote past_note c.args.s.now.lead c.args.s.now.lead_count c.requires.writable.numbers.lead
 
-pub put_keys-requires : goal.put_keys-requires
-put_keys-requires c = record { writable = c.requires.writable; in_lane = rw c.in-Keys.is at c.requires.in_lane; room = rw c.in-Keys.is at c.requires.room }
+pub put_each-requires-in-Keys-clause-finite : goal.put_each-requires-in-Keys-clause-finite
+put_each-requires-in-Keys-clause-finite c = each_taken FiniteNote past_note c.args.s.now.keys c.args.s.now.keys_count c.requires.writable.numbers.keys
 
-pub put_hits-requires : goal.put_hits-requires
-put_hits-requires c = record { writable = c.requires.writable; in_lane = rw c.in-Hits.is at c.requires.in_lane; room = rw c.in-Hits.is at c.requires.room }
+pub put_each-requires-in-Hits-clause-finite : goal.put_each-requires-in-Hits-clause-finite
+put_each-requires-in-Hits-clause-finite c = each_taken FiniteHit past_hit c.args.s.now.hits c.args.s.now.hit_count c.requires.writable.numbers.hits
 
-pub put_bass-requires : goal.put_bass-requires
-put_bass-requires c = record { writable = c.requires.writable; in_lane = rw c.in-Bass.is at c.requires.in_lane; room = rw c.in-Bass.is at c.requires.room }
-
-pub returns-in-Lead : goal.returns-in-Lead
-returns-in-Lead c =
-    rw c.in-Lead.is c.put_lead.ensures
-
-pub returns-in-Keys : goal.returns-in-Keys
-returns-in-Keys c =
-    rw c.in-Keys.is c.put_keys.ensures
-
-pub returns-in-Hits : goal.returns-in-Hits
-returns-in-Hits c =
-    rw c.in-Hits.is c.put_hits.ensures
-
-pub returns-in-Bass : goal.returns-in-Bass
-returns-in-Bass c =
-    rw c.in-Bass.is c.put_bass.ensures
+pub put_each-requires-in-Bass-clause-finite : goal.put_each-requires-in-Bass-clause-finite
+put_each-requires-in-Bass-clause-finite c = each_taken FiniteNote past_note c.args.s.now.bass c.args.s.now.bass_count c.requires.writable.numbers.bass

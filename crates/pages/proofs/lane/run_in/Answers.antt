@@ -1,11 +1,6 @@
--- A layer that plays has the bar's run, and a silent one has none. Assumes nothing.
-use Rattle.pages.specs.Lane.{run_in}
+-- A bar's run stands in its lane. Assumes nothing.
+use Rattle.pages.proofs.LaneLaws.{run_within}
 use Rattle.pages.proofs.lane.run_in.Goals as goal
 
-pub returns-then-on : goal.returns-then-on
-unfolding run_in
-returns-then-on c = rw c.if-on.true c.bar_run.ensures
-
-pub returns-else-on : goal.returns-else-on
-unfolding run_in
-returns-else-on c = rw c.if-on.false
+pub returns-then-on-clause-in_lane : goal.returns-then-on-clause-in_lane
+returns-then-on-clause-in_lane c = rw c.bar_run.ensures (run_within c.args.s.now c.requires c.args.lane c.args.bar)

@@ -1,9 +1,7 @@
 -- A silent pad's head says 0, and else the head says 4 and the bar's four notes follow. Assumes nothing.
-use mathlib.Core.Bool.{true}
-use mathlib.Core.Path.{◌≡◌, sym, ap, ◌∙◌}
+use mathlib.Core.Path.{ap, ◌∙◌}
 use mathlib.Core.List.{List, []}
 use Prim.Native.Nat.{ℕ, ◌+◌}
-use native.Mathlib.Omega.{arith}
 use lib.ListN.{length, get_or}
 use Rattle.laws.proofs.Writes.{wrote_then, wrote_as}
 use Rattle.pages.specs.Bytes.{field}
@@ -14,20 +12,10 @@ pub returns-then-not-on : goal.returns-then-not-on
 unfolding field
 returns-then-not-on c = rw c.if-not-on.true c.put_head.ensures
 
-pub slice_bounds-put_bytes-end : goal.slice_bounds-put_bytes-end
-slice_bounds-put_bytes-end c =
-    sym (rw c.bar_chords-chords.ensures (chord_notes c.args.s c.requires.chorded c.args.bar c.requires.bar_bound))
-
-pub put_bytes-requires : goal.put_bytes-requires
-put_bytes-requires c =
-    let on : c.args.on ≡ true = c.if-not-on.false in
-    let four = chord_notes c.args.s c.requires.chorded c.args.bar c.requires.bar_bound in
-    rw c.bar_chords-chords.ensures (omega (arith, rw on at c.requires.room))
-
 pub returns : goal.returns
 unfolding field
 returns c =
-    let four = chord_notes c.args.s c.requires.chorded c.args.bar c.requires.bar_bound in
+    let four = chord_notes c.args.s.now c.requires.chorded c.args.bar c.requires.bar_bound in
     let is = ap (λ (l : List (List ℕ)). get_or l c.args.bar []) c.bar_chords-chords.ensures in
     rw c.if-not-on.false
     (wrote_as (ap (λ (n : ℕ). 3 + n) (ap length is ∙ four)) (rw (is, four)) (wrote_then c.put_head-a.ensures c.put_bytes.ensures))

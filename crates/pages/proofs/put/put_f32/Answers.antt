@@ -4,6 +4,3 @@ use Rattle.pages.proofs.put.put_f32.Goals as goal
 
 pub float_to_bits-x : goal.float_to_bits-x
 float_to_bits-x c = no_nan c.args.x c.requires.finite
-
-pub returns : goal.returns
-returns c = c.put_u32.ensures

@@ -7,4 +7,4 @@ use Rattle.pages.proofs.sheet.put_chords.Goals as goal
 pub returns : goal.returns
 unfolding field
 returns c =
-    wrote_as refl (rw (← c.bar_chords-chords.ensures, c.put_eight.ensures.size)) (wrote_then c.put_head-a.ensures c.put_eight.ensures)
+    wrote_as refl (rw (← c.bar_chords.ensures, c.put_eight.ensures.size)) (wrote_then c.put_head-a.ensures c.put_eight.ensures)

@@ -1,13 +1,9 @@
--- After b turns the first b chords are written; a turn writes one more. Assumes nothing.
-use mathlib.Core.Path.{◌≡◌}
-use Prim.Native.Nat.{◌-◌, ◌*◌, ◌≤◌}
-use lib.ListN.{length, take}
+-- The chords before the index are written. Assumes nothing.
+use Prim.Native.Nat.{◌*◌}
+use lib.ListN.{take}
 use Rattle.laws.specs.Lists.{joined}
 use Rattle.laws.specs.Writes.{Wrote}
 use Rattle.pages.proofs.sheet.put_eight.Given as goal
 
-abbrev pub invariant-loop-b : goal.invariant-loop-b
-invariant-loop-b l = (l.b ≤ 8) × (length l.chords ≡ 8) × (length l.buf ≡ length l.initial.buf) × Wrote l.initial.buf l.buf l.at l.o (4 * l.b) (joined (take l.b l.chords))
-
-abbrev pub decreases-loop-b : goal.decreases-loop-b
-decreases-loop-b l = 8 - l.b
+abbrev pub invariant-loop-notes : goal.invariant-loop-notes
+invariant-loop-notes l = Wrote l.initial.buf l.buf l.at l.o (4 * l.notes-index) (joined (take l.notes-index l.chords))

@@ -1,10 +1,17 @@
 -- The head, then the six numbers. Assumes nothing.
+use mathlib.Core.Path.{◌≡◌, refl}
+use mathlib.Core.Bool.{Bool, true, false, cond}
+use Rattle.std.specs.Int.{from_bool}
 use Rattle.laws.proofs.Writes.{wrote_then}
 use Rattle.pages.specs.Bytes.{field}
 use Rattle.pages.proofs.sheet.put_ends.Goals as goal
 
+as_number : (b : Bool) → cond b 1 0 ≡ from_bool b
+as_number true = refl
+as_number false = refl
+
 pub returns : goal.returns
 unfolding field
 returns c =
-    rw (← c.flag-dip.ensures, ← c.bars-outro_bars.ensures, ← c.code-outro_code.ensures, ← c.bars-intro_bars.ensures, ← c.code-intro_code.ensures)
+    rw (as_number c.args.f.dip, ← c.from.ensures, ← c.bars-2.ensures, ← c.code-2.ensures, ← c.bars.ensures, ← c.code.ensures)
     (wrote_then c.put_head-a.ensures c.put_bytes.ensures)

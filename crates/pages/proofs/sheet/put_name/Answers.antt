@@ -6,5 +6,5 @@ use Rattle.pages.proofs.sheet.put_name.Goals as goal
 pub returns : goal.returns
 unfolding field
 returns c =
-    rw (← c.number-voice_number.ensures, ← c.number-number.ensures)
+    rw (← c.number-2.ensures, ← c.number.ensures)
     (wrote_then c.put_head-a.ensures (wrote_then c.put_u8-b.ensures (wrote_then c.put_u64-c.ensures c.put_u8.ensures)))

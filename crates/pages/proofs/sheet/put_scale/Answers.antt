@@ -1,5 +1,5 @@
 -- The head, then the classes in use, which are as many as the head says. Assumes nothing.
-use mathlib.Core.Path.{◌≡◌, sym}
+use mathlib.Core.Path.{◌≡◌}
 use native.Mathlib.Omega.{arith}
 use lib.ListN.{length}
 use lib.Seq.{length-take-le}
@@ -7,23 +7,6 @@ use Rattle.laws.proofs.Writes.{wrote_then, wrote_as}
 use Rattle.pages.specs.Bytes.{field}
 use borrow.Author.Rules.{rules}
 use Rattle.pages.proofs.sheet.put_scale.Goals as goal
-
-pub slice_bounds-pcs-end : goal.slice_bounds-pcs-end
-slice_bounds-pcs-end c =
-    let k : length c.args.scale.pcs ≡ 6 = search rules in
-    omega arith
-
-pub slice_bounds-put_bytes-end : goal.slice_bounds-put_bytes-end
-slice_bounds-put_bytes-end c =
-    let a = c.args.scale in
-    let k : length a.pcs ≡ 6 = search rules in
-    sym (length-take-le a.n a.pcs (omega arith))
-
-pub put_bytes-requires : goal.put_bytes-requires
-put_bytes-requires c =
-    let a = c.args.scale in
-    let k : length a.pcs ≡ 6 = search rules in
-    omega (arith, length-take-le a.n a.pcs (omega arith))
 
 pub returns : goal.returns
 unfolding field

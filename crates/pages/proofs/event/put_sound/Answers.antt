@@ -1,7 +1,7 @@
 -- Its five parts, one after the other. Assumes nothing.
 use Rattle.laws.proofs.Writes.{wrote_then}
 use Rattle.pages.specs.Lane.{sound_bytes}
-use Rattle.pages.proofs.lane.put_sound.Goals as goal
+use Rattle.pages.proofs.event.put_sound.Goals as goal
 
 pub returns : goal.returns
 unfolding sound_bytes
