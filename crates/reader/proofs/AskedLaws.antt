@@ -69,9 +69,10 @@ tested_passes bytes e =
     let a = by_tests (formed bytes) (coded bytes && within (song_in bytes)) tt tt e in
     passed bytes a.0 a.1
 
-pub tested_refused : (bytes : List ℕ) (r : Refusal) → tested_of bytes ≡ Err r → read_of bytes ≡ Err r
+-- a refusal is what reading answers, and nothing else
+pub read_refused_lem : (bytes : List ℕ) (r : Refusal) → tested_of bytes ≡ Err r → read_of bytes ≡ Err r
 unfolding tested_of read_of
-tested_refused bytes r e = refused_by (formed bytes) (coded bytes && within (song_in bytes)) tt (song_in bytes) r e
+read_refused_lem bytes r e = refused_by (formed bytes) (coded bytes && within (song_in bytes)) tt (song_in bytes) r e
 
 pub passes : (bytes : List ℕ) (v : Song) → read_of bytes ≡ Ok v → Passes bytes
 unfolding read_of

@@ -94,8 +94,11 @@ reread_passed bytes octets p =
     let e = passes_read bytes p in
     rw e (asked_valid (song_in bytes) (read_valid bytes (song_in bytes) e) ∙ ap Writes (passed_bytes bytes octets p))
 
+pub reread_done : (bytes : List ℕ) (v : Song) → Octets bytes → read_of bytes ≡ Ok v → reread_asked bytes ≡ Writes bytes
+reread_done bytes v octets e = reread_passed bytes octets (passes bytes v e)
+
 reread_given : (v : Song) (bytes : List ℕ) → Octets bytes → Reads bytes v → reread_asked bytes ≡ Writes bytes
-reread_given v bytes octets e = reread_passed bytes octets (passes bytes v (reads_told bytes v e))
+reread_given v bytes octets e = reread_done bytes v octets (reads_told bytes v e)
 
 pub reread_answers : (bytes b : List ℕ) → Octets bytes → RereadAnswers bytes b
 unfolding reread_asked

@@ -2,7 +2,7 @@
 use mathlib.Core.Path.{◌≡◌, sym, ◌∙◌}
 use native.Mathlib.Omega.{arith}
 use Rattle.std.proofs.lemmas.Result.{err_from_is_err_and}
-use Rattle.reader.proofs.AskedLaws.{tested_passes, tested_refused, passes_read}
+use Rattle.reader.proofs.AskedLaws.{tested_passes, read_refused_lem, passes_read}
 use Rattle.reader.proofs.RoomyLaws.{formed_roomy}
 use Rattle.reader.proofs.read.read.Goals as goal
 
@@ -15,7 +15,7 @@ song_in-requires c =
 pub returns-in_err-tested : goal.returns-in_err-tested
 returns-in_err-tested c =
     let p = err_from_is_err_and c.from_residual.result c.from_residual.ensures.1 in
-    record { value = rw (p.1, p.2) (sym (tested_refused c.args.bytes.now _ (sym c.in_err-tested.ensures))); octets = λ i. omega (arith, c.type_inv.bytes i) }
+    record { value = rw (p.1, p.2) (sym (read_refused_lem c.args.bytes.now _ (sym c.in_err-tested.ensures))); octets = λ i. omega (arith, c.type_inv.bytes i) }
 
 pub returns : goal.returns
 returns c =

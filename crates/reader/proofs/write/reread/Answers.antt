@@ -4,7 +4,7 @@ use native.Mathlib.Omega.{arith}
 use Rattle.std.proofs.lemmas.Result.{err_from_is_err_and}
 use Rattle.reader.specs.Promise.{Octets}
 use Rattle.reader.specs.Read.{reread_asked}
-use Rattle.reader.proofs.AskedLaws.{tested_passes, tested_refused}
+use Rattle.reader.proofs.AskedLaws.{tested_passes, read_refused_lem}
 use Rattle.reader.proofs.PromiseLaws.{reread_passed}
 use Rattle.reader.proofs.write.reread.Goals as goal
 
@@ -12,7 +12,7 @@ pub returns-in_err-tested : goal.returns-in_err-tested
 unfolding reread_asked
 returns-in_err-tested c =
     let p = err_from_is_err_and c.from_residual.result c.from_residual.ensures.1 in
-    let e = tested_refused c.args.sheet.now _ (sym c.in_err-tested.ensures) in
+    let e = read_refused_lem c.args.sheet.now _ (sym c.in_err-tested.ensures) in
     record { value = rw (p.1, p.2, e); buf_after = rw e; octets = λ i. omega (arith, c.type_inv.sheet i) }
 
 pub returns : goal.returns
