@@ -11,7 +11,6 @@ pub mod FieldsLaws
 pub mod FitLaws
 pub mod FormedLaws
 pub mod KnownLaws
-pub mod LaidLaws
 pub mod LayoutLaws
 pub mod LengthLaws
 pub mod LibraryLaws
@@ -20,6 +19,7 @@ pub mod NoSeedLaws
 pub mod NumberLaws
 pub mod OctetLaws
 pub mod PromiseLaws
+pub mod LoopLaws
 pub mod ReadingLaws
 pub mod RoomyLaws
 pub mod SongLaws

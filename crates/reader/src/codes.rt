@@ -2,9 +2,9 @@
 // who asks tests the codes as well.
 ghost use Rattle.std.specs.Prelude.{◌≡◌, ◌+◌, ◌*◌, ◌≤◌, length};
 ghost use Rattle.reader.specs.Codes.{voice_coded, lead_role_coded, role_coded, kind_coded, bars_coded, edge_coded, end_coded, outro_coded, plays_coded, end_known, outro_known, name_known, kinds_known, ends_known, plays_known, coded};
-ghost use Rattle.reader.specs.Inner.Layout.{layout_of, Roomy};
+ghost use Rattle.reader.specs.Inner.Layout.{Roomy};
 
-use crate::layout::Layout;
+use crate::layout::Fields;
 use composer::form::ends::{Bars, Edge, End, Outro};
 use composer::form::plays::Plays;
 use composer::note::{DrumKind, NoteRole};
@@ -14,56 +14,38 @@ use pages::get::byte_in;
 pub(crate) fn voice_coded(n: u8) -> LeadVoice
     ensures { result ≡ voice_coded n }
 {
-    if n == 0 {
-        return LeadVoice::EpVel;
+    match n {
+        0 => LeadVoice::EpVel,
+        1 => LeadVoice::Pluck,
+        2 => LeadVoice::Kalimba,
+        _ => LeadVoice::Vibraphone,
     }
-    if n == 1 {
-        return LeadVoice::Pluck;
-    }
-    if n == 2 {
-        return LeadVoice::Kalimba;
-    }
-    LeadVoice::Vibraphone
 }
 
 pub(crate) fn kind_coded(n: u8) -> DrumKind
     ensures { result ≡ kind_coded n }
 {
-    if n == 0 {
-        return DrumKind::Kick;
+    match n {
+        0 => DrumKind::Kick,
+        1 => DrumKind::Snare,
+        2 => DrumKind::Hat,
+        _ => DrumKind::OpenHat,
     }
-    if n == 1 {
-        return DrumKind::Snare;
-    }
-    if n == 2 {
-        return DrumKind::Hat;
-    }
-    DrumKind::OpenHat
 }
 
 // A lead note's six roles; any other code is none of them.
 fn lead_role_coded(n: u8) -> NoteRole
     ensures { result ≡ lead_role_coded n }
 {
-    if n == 0 {
-        return NoteRole::Quote;
+    match n {
+        0 => NoteRole::Quote,
+        1 => NoteRole::Close,
+        2 => NoteRole::Peak,
+        3 => NoteRole::Resolve,
+        4 => NoteRole::ChordTone,
+        5 => NoteRole::Passing,
+        _ => NoteRole::Backing,
     }
-    if n == 1 {
-        return NoteRole::Close;
-    }
-    if n == 2 {
-        return NoteRole::Peak;
-    }
-    if n == 3 {
-        return NoteRole::Resolve;
-    }
-    if n == 4 {
-        return NoteRole::ChordTone;
-    }
-    if n == 5 {
-        return NoteRole::Passing;
-    }
-    NoteRole::Backing
 }
 
 // The role of a note of the lead, or of any other.
@@ -71,9 +53,8 @@ pub(crate) fn role_coded(leads: bool, n: u8) -> NoteRole
     ensures { result ≡ role_coded leads n }
 {
     if leads {
-        return lead_role_coded(n);
-    }
-    if n == 6 {
+        lead_role_coded(n)
+    } else if n == 6 {
         NoteRole::Backing
     } else {
         NoteRole::Quote
@@ -93,31 +74,30 @@ fn edge_coded(code: u8) -> Edge
 }
 
 // An ending by its code and its bars.
+#[tactic(auto, unfolding(crate::specs::Codes::end_coded))]
 pub(crate) fn end_coded(code: u8, bars: u8) -> End
     ensures { result ≡ end_coded code bars }
 {
-    if code == 0 {
-        return End::Cold;
+    match code {
+        0 => End::Cold,
+        1 => End::Plain(bars_coded(bars)),
+        _ => End::Edged(bars_coded(bars), edge_coded(code)),
     }
-    let n = bars_coded(bars);
-    if code == 1 {
-        return End::Plain(n);
-    }
-    let e = edge_coded(code);
-    End::Edged(n, e)
 }
 
+#[tactic(auto, unfolding(crate::specs::Codes::outro_coded))]
 pub(crate) fn outro_coded(code: u8, bars: u8) -> Outro
     ensures { result ≡ outro_coded code bars }
 {
     if code == 4 {
-        return Outro::RingOut;
+        Outro::RingOut
+    } else {
+        Outro::Ends(end_coded(code, bars))
     }
-    let e = end_coded(code, bars);
-    Outro::Ends(e)
 }
 
 // The layers of a bar by its byte.
+#[tactic(auto, unfolding(crate::specs::Codes::plays_coded))]
 pub(crate) fn plays_coded(n: u8) -> Plays
     ensures { result ≡ plays_coded n }
 {
@@ -130,25 +110,30 @@ pub(crate) fn plays_coded(n: u8) -> Plays
 }
 
 // Whether there is an intro, and an outro, of this code with so many bars.
+#[tactic(auto, unfolding(crate::specs::Codes::end_known))]
 fn end_known(code: u8, bars: u8) -> bool
     ensures { result ≡ end_known code bars }
 {
     if code == 0 {
-        return bars == 0;
+        bars == 0
+    } else {
+        (code <= 3) & ((bars == 4) | (bars == 8))
     }
-    (code <= 3) & ((bars == 4) | (bars == 8))
 }
 
+#[tactic(auto, unfolding(crate::specs::Codes::outro_known))]
 fn outro_known(code: u8, bars: u8) -> bool
     ensures { result ≡ outro_known code bars }
 {
     if code == 4 {
-        return bars == 2;
+        bars == 2
+    } else {
+        end_known(code, bars)
     }
-    end_known(code, bars)
 }
 
 // Style and voice.
+#[tactic(auto, unfolding(crate::specs::Codes::name_known))]
 fn name_known(bytes: &[u8], at: usize) -> bool
     requires { at + 10 ≤ length bytes.now }
     ensures { result ≡ name_known bytes.now at }
@@ -159,21 +144,20 @@ fn name_known(bytes: &[u8], at: usize) -> bool
 }
 
 // The drums of n hits.
+#[tactic(auto, unfolding(crate::specs::Codes::kinds_known, crate::specs::Tests::all_to))]
 fn kinds_known(bytes: &[u8], at: usize, n: usize) -> bool
     requires { at + 10 * n ≤ length bytes.now }
     ensures { result ≡ kinds_known bytes.now at n }
 {
     let mut ok = true;
-    let mut i: usize = 0;
-    while i < n {
-        let kind = byte_in(bytes, at + 10 * i + 1);
-        ok = ok & (kind <= 3);
-        i += 1;
+    for i in 0..n {
+        ok &= byte_in(bytes, at + 10 * i + 1) <= 3;
     }
     ok
 }
 
 // Intro, outro and dip.
+#[tactic(auto, unfolding(crate::specs::Codes::ends_known))]
 fn ends_known(bytes: &[u8], at: usize) -> bool
     requires { at + 6 ≤ length bytes.now }
     ensures { result ≡ ends_known bytes.now at }
@@ -189,31 +173,28 @@ fn ends_known(bytes: &[u8], at: usize) -> bool
 }
 
 // The layers of n bars.
+#[tactic(auto, unfolding(crate::specs::Codes::plays_known, crate::specs::Tests::all_to))]
 fn plays_known(bytes: &[u8], at: usize, n: usize) -> bool
     requires { at + n ≤ length bytes.now }
     ensures { result ≡ plays_known bytes.now at n }
 {
     let mut ok = true;
-    let mut b: usize = 0;
-    while b < n {
-        let bits = byte_in(bytes, at + b);
-        ok = ok & (bits < 16);
-        b += 1;
+    for b in 0..n {
+        ok &= byte_in(bytes, at + b) < 16;
     }
     ok
 }
 
 // Whether every code of formed bytes is known.
-pub(crate) fn is_coded(bytes: &[u8], l: Layout) -> bool
-    requires l_value { l ≡ layout_of bytes.now }
-    requires roomy { Roomy bytes.now }
-    ensures { result ≡ coded bytes.now }
+#[tactic(auto, unfolding(crate::specs::Codes::coded))]
+pub(crate) fn is_coded(fields: &Fields) -> bool
+    requires { Roomy fields.now.bytes.now }
+    ensures { result ≡ coded fields.now.bytes.now }
 {
-    let at = l.bodies;
-    let sizes = l.sizes;
-    let name = name_known(bytes, at[0]);
-    let kinds = kinds_known(bytes, at[6], sizes[6] / 10);
-    let ends = ends_known(bytes, at[8]);
-    let plays = plays_known(bytes, at[9], sizes[9]);
+    let bytes = fields.bytes;
+    let name = name_known(bytes, fields.body(0));
+    let kinds = kinds_known(bytes, fields.body(6), fields.hits(6));
+    let ends = ends_known(bytes, fields.body(8));
+    let plays = plays_known(bytes, fields.body(9), fields.size(9));
     name & kinds & ends & plays
 }

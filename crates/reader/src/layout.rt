@@ -1,22 +1,88 @@
 // Which edition a sheet is of, where its fields stand, and whether they are those that some value has.
-ghost use Rattle.std.specs.Prelude.{◌≡◌, ◌<◌, get_or};
-ghost use Rattle.reader.specs.Inner.Layout.{layout_of};
-ghost use Rattle.reader.specs.Layout.{edition_in, entries_fit, length_fits, led, formed};
+ghost use Rattle.std.specs.Prelude.{◌≡◌, ℕ, ◌<◌, get_or};
+ghost use Rattle.reader.specs.Layout.{edition_in, start_at, body_at, size_at, entries_fit, length_fits, led, formed};
 ghost use Rattle.reader.specs.Tests.{all_to};
 
 use pages::edition::Edition;
 use pages::get::{byte_at, u16_at};
 
-// The edition, where the body of each of the ten fields begins, how long it is, and where the tenth ends.
+// A sheet: its bytes, its edition, where the body of each of the ten fields begins, how long it is, and where the tenth
+// ends.
 #[derive(Clone, Copy)]
-pub struct Layout {
+pub struct Fields<'a> {
+    pub bytes: &'a [u8],
     pub edition: Edition,
-    pub bodies: [usize; 10],
-    pub sizes: [usize; 10],
-    pub end: usize,
+    bodies: [usize; 10],
+    sizes: [usize; 10],
+    end: usize,
+    pub ghost edition_is: { edition ≡ edition_in bytes.now },
+    pub ghost bodies_are: { (k : ℕ) → k < 10 → get_or bodies k 0 ≡ body_at bytes.now k },
+    pub ghost sizes_are: { (k : ℕ) → k < 10 → get_or sizes k 0 ≡ size_at bytes.now k },
+    pub ghost end_is: { end ≡ start_at bytes.now 10 },
+}
+
+impl<'a> Fields<'a> {
+    ghost use Rattle.reader.specs.Song.{note_count_in, hit_count_in};
+
+    // Each field begins where the one before ends; its length says where its own end is. Nothing is tested yet.
+    #[tactic(auto, using(std::proofs::lemmas::List::Edits::fill_by_more), unfolding(crate::specs::Layout::start_at))]
+    pub(crate) fn of(bytes: &'a [u8]) -> Fields<'a>
+        ensures { result.bytes.now ≡ bytes.now }
+    {
+        let edition = edition_in(bytes);
+        let mut bodies = [0usize; 10];
+        let mut sizes = [0usize; 10];
+        let mut at = edition.field_size();
+        for k in 0..10 {
+            let size = u16_at(bytes, at + 1) as usize;
+            bodies[k] = at + 3;
+            sizes[k] = size;
+            at += 3 + size;
+        }
+        Fields {
+            bytes,
+            edition,
+            bodies,
+            sizes,
+            end: at,
+        }
+    }
+
+    // Where the body of field k begins.
+    pub(crate) fn body(&self, k: usize) -> usize
+        requires { k < 10 }
+        ensures { result ≡ body_at self.now.bytes.now k }
+    {
+        self.bodies[k]
+    }
+
+    // Of how many bytes it is.
+    pub(crate) fn size(&self, k: usize) -> usize
+        requires { k < 10 }
+        ensures { result ≡ size_at self.now.bytes.now k }
+    {
+        self.sizes[k]
+    }
+
+    // Of how many notes.
+    pub(crate) fn notes(&self, k: usize) -> usize
+        requires { k < 10 }
+        ensures { result ≡ note_count_in self.now.bytes.now k }
+    {
+        self.sizes[k] / self.edition.note_width()
+    }
+
+    // Of how many hits.
+    pub(crate) fn hits(&self, k: usize) -> usize
+        requires { k < 10 }
+        ensures { result ≡ hit_count_in self.now.bytes.now k }
+    {
+        self.sizes[k] / 10
+    }
 }
 
 // A sheet that begins with 0x00 is of edition 2, any other of edition 1.
+#[tactic(auto, unfolding(crate::specs::Layout::edition_in))]
 fn edition_in(bytes: &[u8]) -> Edition
     ensures { result ≡ edition_in bytes.now }
 {
@@ -25,30 +91,6 @@ fn edition_in(bytes: &[u8]) -> Edition
         Edition::Two
     } else {
         Edition::One
-    }
-}
-
-// Each field begins where the one before ends; its length says where its own end is. Nothing is tested yet.
-pub(crate) fn layout_of(bytes: &[u8]) -> Layout
-    ensures { result ≡ layout_of bytes.now }
-{
-    let mut bodies = [0usize; 10];
-    let mut sizes = [0usize; 10];
-    let edition = edition_in(bytes);
-    let mut at = edition.field_size();
-    let mut k: usize = 0;
-    while k < 10 {
-        let size = u16_at(bytes, at + 1);
-        bodies[k] = at + 3;
-        sizes[k] = size as usize;
-        at = at + 3 + size as usize;
-        k += 1;
-    }
-    Layout {
-        edition: edition,
-        bodies: bodies,
-        sizes: sizes,
-        end: at,
     }
 }
 
@@ -61,8 +103,9 @@ fn length_fits(n: usize, w: usize, lo: usize, hi: usize) -> bool
 }
 
 // Whether every field has a length that some value's has: by `widths`, `least` and `most`, field by field.
-fn lengths_fit(edition: Edition, sizes: [usize; 10]) -> bool
-    ensures { result ≡ all_to (λ k. length_fits edition k (get_or sizes k 0)) 10 }
+#[tactic(auto, using(crate::proofs::WidthLaws::width_least), unfolding(crate::specs::Layout::length_fits, crate::specs::Tests::all_to))]
+fn lengths_fit(edition: Edition, sizes: &[usize; 10]) -> bool
+    ensures { result ≡ all_to (λ k. length_fits edition k (get_or sizes.now k 0)) 10 }
 {
     let note = edition.note_width();
     let name = length_fits(sizes[0], 10, 1, 1);
@@ -79,6 +122,7 @@ fn lengths_fit(edition: Edition, sizes: [usize; 10]) -> bool
 }
 
 // Whether the 0x00 that edition 2 begins with has length 1 and body 2.
+#[tactic(auto, unfolding(crate::specs::Layout::led))]
 fn is_led(bytes: &[u8], edition: Edition) -> bool
     ensures { result ≡ led edition bytes.now }
 {
@@ -94,21 +138,12 @@ fn is_led(bytes: &[u8], edition: Edition) -> bool
 
 // Whether the bytes are the edition's own field and ten fields in order, each of a length that some value's has, and
 // nothing else.
-pub(crate) fn is_formed(bytes: &[u8], l: Layout) -> bool
-    requires { l ≡ layout_of bytes.now }
-    ensures { result ≡ formed bytes.now }
+pub(crate) fn is_formed(fields: &Fields) -> bool
+    ensures { result ≡ formed fields.now.bytes.now }
 {
-    let bodies = l.bodies;
-    let sizes = l.sizes;
-    let edition = l.edition;
-    let first = is_led(bytes, edition);
-    let lengths = lengths_fit(edition, sizes);
-    let mut tags = true;
-    let mut k: usize = 0;
-    while k < 10 {
-        let tag = byte_at(bytes, bodies[k] - 3);
-        tags = tags & (tag as usize == k + 1);
-        k += 1;
-    }
-    first & (tags & lengths) & (l.end == bytes.len())
+    let bytes = fields.bytes;
+    let first = is_led(bytes, fields.edition);
+    let lengths = lengths_fit(fields.edition, &fields.sizes);
+    let tags = (0..10).all(|k| byte_at(bytes, fields.body(k) - 3) as usize == k + 1);
+    first & (tags & lengths) & (fields.end == bytes.len())
 }

@@ -1,28 +1,26 @@
 // The reader of sheets.
 ghost use Rattle.std.specs.Prelude.{◌≡◌};
-ghost use Rattle.reader.specs.Inner.Layout.{layout_of};
 ghost use Rattle.reader.specs.Promise.{Octets};
 ghost use Rattle.reader.specs.Inner.Tested.{tested_of};
 ghost use Rattle.reader.specs.Read.{read_of};
 
 use crate::codes::is_coded;
-use crate::layout::{Layout, is_formed, layout_of};
+use crate::layout::{Fields, is_formed};
 use crate::passes::song_passes;
 use crate::song::{Song, song_in};
 use composer::refusal::Refusal;
 
 // How reading goes: bytes that are not the fields of an edition in order, each of a length that some value has there,
 // are refused with 7; only then an unknown code, a value out of range or a song of another length with 8.
-pub(crate) fn tested(bytes: &[u8], l: Layout) -> Result<(), Refusal>
-    requires { l ≡ layout_of bytes.now }
-    ensures { result ≡ tested_of bytes.now }
+pub(crate) fn tested(fields: &Fields) -> Result<(), Refusal>
+    ensures { result ≡ tested_of fields.now.bytes.now }
 {
-    let formed = is_formed(bytes, l);
+    let formed = is_formed(fields);
     if !formed {
         return Err(Refusal::SheetFields);
     }
-    let coded = is_coded(bytes, l);
-    let within = song_passes(bytes, l);
+    let coded = is_coded(fields);
+    let within = song_passes(fields);
     if !(coded & within) {
         return Err(Refusal::SheetValues);
     }
@@ -35,7 +33,7 @@ pub fn read(bytes: &[u8]) -> Result<Song, Refusal>
     ensures value { result ≡ read_of bytes.now }
     ensures octets { Octets bytes.now }
 {
-    let l = layout_of(bytes);
-    tested(bytes, l)?;
-    Ok(song_in(bytes, l))
+    let fields = Fields::of(bytes);
+    tested(&fields)?;
+    Ok(song_in(&fields))
 }

@@ -2,17 +2,18 @@
 ghost use Rattle.std.specs.Prelude.{true, ◌≡◌, ◌+◌, ◌*◌, ◌≤◌, length};
 ghost use Rattle.laws.specs.Lists.{pad};
 ghost use Rattle.composer.specs.Form.Plays.{silent};
-ghost use Rattle.reader.specs.Inner.Layout.{layout_of, Roomy};
+ghost use Rattle.reader.specs.Inner.Layout.{Roomy};
 ghost use Rattle.reader.specs.Layout.{edition_in};
 ghost use Rattle.reader.specs.Within.{score_within, within};
 ghost use Rattle.reader.specs.Song.{chord_from, chords_from, scale_at, score_in, plays_from, form_in, song_in};
 
 use crate::codes::{end_coded, outro_coded, plays_coded, voice_coded};
-use crate::event::{bass_at, hits_at, keys_at, lead_at};
-use crate::layout::Layout;
+use crate::event::{hits_at, notes_at};
+use crate::layout::Fields;
 use composer::chord::{Chord, NO_CHORD};
 use composer::compose::style_by;
 use composer::form::Form;
+use composer::form::ends::{End, Outro};
 use composer::form::plays::{Plays, SILENT};
 use composer::harmony::Scale;
 use composer::score::Score;
@@ -30,147 +31,138 @@ pub struct Song {
 }
 
 // Four notes, of which the first is the root.
+#[tactic(auto, unfolding(crate::specs::Song::chord_from))]
 fn chord_from(bytes: &[u8], at: usize) -> Chord
     requires { at + 4 ≤ length bytes.now }
     ensures { result ≡ chord_from bytes.now at }
 {
-    let a = byte_in(bytes, at);
-    let b = byte_in(bytes, at + 1);
-    let c = byte_in(bytes, at + 2);
-    let d = byte_in(bytes, at + 3);
     Chord {
-        notes: [a, b, c, d],
+        notes: [
+            byte_in(bytes, at),
+            byte_in(bytes, at + 1),
+            byte_in(bytes, at + 2),
+            byte_in(bytes, at + 3),
+        ],
     }
 }
 
+#[tactic(auto, using(laws::proofs::Lists::pad_start, crate::proofs::LoopLaws::padded_more, crate::proofs::LoopLaws::padded_all))]
 pub(crate) fn chords_from(bytes: &[u8], at: usize) -> [Chord; 8]
     requires { at + 32 ≤ length bytes.now }
     ensures { result ≡ chords_from bytes.now at }
 {
     let mut out = [NO_CHORD; 8];
-    let mut b: usize = 0;
-    while b < 8 {
+    for b in 0..8 {
         out[b] = chord_from(bytes, at + 4 * b);
-        b += 1;
     }
     out
 }
 
+#[tactic(auto, using(laws::proofs::Lists::pad_start, crate::proofs::LoopLaws::padded_more), unfolding(crate::specs::Song::scale_at))]
 pub(crate) fn scale_at(bytes: &[u8], at: usize, n: usize) -> Scale
     requires room { at + n ≤ length bytes.now }
     requires n_bound { n ≤ 6 }
     ensures { result ≡ scale_at bytes.now at n }
 {
     let mut pcs = [0u8; 6];
-    let mut i: usize = 0;
-    while i < n {
+    for i in 0..n {
         pcs[i] = byte_in(bytes, at + i);
-        i += 1;
     }
-    Scale { pcs: pcs, n: n }
+    Scale { pcs, n }
 }
 
-fn score_in(bytes: &[u8], l: Layout) -> Score
-    requires l_value { l ≡ layout_of bytes.now }
-    requires roomy { Roomy bytes.now }
-    requires within { score_within (edition_in bytes.now) (score_in bytes.now) ≡ true }
-    ensures { result ≡ score_in bytes.now }
+fn score_in(fields: &Fields) -> Score
+    requires roomy { Roomy fields.now.bytes.now }
+    requires within { score_within (edition_in fields.now.bytes.now) (score_in fields.now.bytes.now) ≡ true }
+    ensures { result ≡ score_in fields.now.bytes.now }
 {
-    let at = l.bodies;
-    let sizes = l.sizes;
-    let style_number = byte_in(bytes, at[0]);
-    let voice_number = byte_in(bytes, at[0] + 9);
-    let style = style_by(style_number);
-    let voice = voice_coded(voice_number);
-    let bpm = f32_at(bytes, at[1]);
-    let chords = chords_from(bytes, at[2]);
-    let edition = l.edition;
-    let width = edition.note_width();
-    let lead_count = sizes[4] / width;
-    let keys_count = sizes[5] / width;
-    let bass_count = sizes[7] / width;
-    let lead = lead_at(bytes, at[4], lead_count, edition);
-    let keys = keys_at(bytes, at[5], keys_count, edition);
-    let hits = hits_at(bytes, at[6], sizes[6] / 10);
-    let bass = bass_at(bytes, at[7], bass_count, edition);
+    let bytes = fields.bytes;
+    let name = fields.body(0);
     Score {
-        style: style,
-        bpm: bpm,
-        bar_chords: chords,
-        lead: lead,
-        lead_count: lead_count,
-        keys: keys,
-        keys_count: keys_count,
-        hits: hits,
-        hit_count: sizes[6] / 10,
-        bass: bass,
-        bass_count: bass_count,
-        lead_voice: voice,
+        style: style_by(byte_in(bytes, name)),
+        bpm: f32_at(bytes, fields.body(1)),
+        bar_chords: chords_from(bytes, fields.body(2)),
+        lead: notes_at(fields, 4, true),
+        lead_count: fields.notes(4),
+        keys: notes_at(fields, 5, false),
+        keys_count: fields.notes(5),
+        hits: hits_at(fields, 6),
+        hit_count: fields.hits(6),
+        bass: notes_at(fields, 7, false),
+        bass_count: fields.notes(7),
+        lead_voice: voice_coded(byte_in(bytes, name + 9)),
     }
 }
 
 // The layers of n bars, a byte each.
+#[tactic(auto, using(laws::proofs::Lists::pad_start, crate::proofs::LoopLaws::padded_more))]
 fn plays_from(bytes: &[u8], at: usize, n: usize) -> [Plays; 64]
     requires room { at + n ≤ length bytes.now }
     requires n_bound { n ≤ 64 }
     ensures { result ≡ pad silent 64 (plays_from bytes.now at n) }
 {
     let mut out = [SILENT; 64];
-    let mut b: usize = 0;
-    while b < n {
-        let byte = byte_in(bytes, at + b);
-        out[b] = plays_coded(byte);
-        b += 1;
+    for b in 0..n {
+        out[b] = plays_coded(byte_in(bytes, at + b));
     }
     out
 }
 
-fn form_in(bytes: &[u8], l: Layout) -> Form
-    requires l_value { l ≡ layout_of bytes.now }
-    requires roomy { Roomy bytes.now }
-    ensures { result ≡ form_in bytes.now }
+// The intro and the outro, each by its code and its bars.
+#[tactic(auto, unfolding(crate::specs::Song::form_in))]
+pub(crate) fn intro_in(fields: &Fields) -> End
+    requires { Roomy fields.now.bytes.now }
+    ensures { result ≡ (form_in fields.now.bytes.now).intro }
 {
-    let bodies = l.bodies;
-    let sizes = l.sizes;
-    let at = bodies[8];
-    let intro_code = byte_in(bytes, at);
-    let intro_bars = byte_in(bytes, at + 1);
-    let phrases = byte_in(bytes, at + 2);
-    let outro_code = byte_in(bytes, at + 3);
-    let outro_bars = byte_in(bytes, at + 4);
-    let dip = byte_in(bytes, at + 5);
-    let intro = end_coded(intro_code, intro_bars);
-    let outro = outro_coded(outro_code, outro_bars);
-    let plays = plays_from(bytes, bodies[9], sizes[9]);
+    let at = fields.body(8);
+    end_coded(byte_in(fields.bytes, at), byte_in(fields.bytes, at + 1))
+}
+
+#[tactic(auto, unfolding(crate::specs::Song::form_in))]
+pub(crate) fn outro_in(fields: &Fields) -> Outro
+    requires { Roomy fields.now.bytes.now }
+    ensures { result ≡ (form_in fields.now.bytes.now).outro }
+{
+    let at = fields.body(8);
+    outro_coded(byte_in(fields.bytes, at + 3), byte_in(fields.bytes, at + 4))
+}
+
+#[tactic(auto, unfolding(crate::specs::Song::form_in))]
+pub(crate) fn phrases_in(fields: &Fields) -> u8
+    requires { Roomy fields.now.bytes.now }
+    ensures { result ≡ (form_in fields.now.bytes.now).phrases }
+{
+    byte_in(fields.bytes, fields.body(8) + 2)
+}
+
+#[tactic(auto, unfolding(crate::specs::Song::form_in))]
+fn form_in(fields: &Fields) -> Form
+    requires { Roomy fields.now.bytes.now }
+    ensures { result ≡ form_in fields.now.bytes.now }
+{
+    let bars = fields.size(9);
     Form {
-        intro: intro,
-        phrases: phrases,
-        outro: outro,
-        dip: dip == 1,
-        plays: plays,
-        bars: sizes[9] as u8,
+        intro: intro_in(fields),
+        phrases: phrases_in(fields),
+        outro: outro_in(fields),
+        dip: byte_in(fields.bytes, fields.body(8) + 5) == 1,
+        plays: plays_from(fields.bytes, fields.body(9), bars),
+        bars: bars as u8,
     }
 }
 
 // The song that formed bytes name whose numbers are in range, field by field; its codes are tested in codes.rt.
-pub(crate) fn song_in(bytes: &[u8], l: Layout) -> Song
-    requires l_value { l ≡ layout_of bytes.now }
-    requires roomy { Roomy bytes.now }
-    requires within { within (song_in bytes.now) ≡ true }
-    ensures { result ≡ song_in bytes.now }
+#[tactic(auto, unfolding(crate::specs::Song::song_in))]
+pub(crate) fn song_in(fields: &Fields) -> Song
+    requires roomy { Roomy fields.now.bytes.now }
+    requires within { within (song_in fields.now.bytes.now) ≡ true }
+    ensures { result ≡ song_in fields.now.bytes.now }
 {
-    let at = l.bodies;
-    let sizes = l.sizes;
-    let seed = u64_at(bytes, at[0] + 1);
-    let score = score_in(bytes, l);
-    let scale = scale_at(bytes, at[3], sizes[3]);
-    let form = form_in(bytes, l);
-    let edition = l.edition;
     Song {
-        edition: edition,
-        seed: seed,
-        score: score,
-        scale: scale,
-        form: form,
+        edition: fields.edition,
+        seed: u64_at(fields.bytes, fields.body(0) + 1),
+        score: score_in(fields),
+        scale: scale_at(fields.bytes, fields.body(3), fields.size(3)),
+        form: form_in(fields),
     }
 }

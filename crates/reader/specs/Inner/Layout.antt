@@ -1,13 +1,8 @@
--- Where the ten bodies stand, in which edition, and that formed bytes have room for them. Definitions only.
+-- That formed bytes have room for their ten bodies. Definitions only.
 use Rattle.std.specs.Prelude.{List, ℕ, ◌+◌, ◌*◌, ◌≤◌, length}
-use Rattle.laws.specs.Lists.{list_to}
 use Rattle.pages.specs.Edition.{note_width}
-use Rattle.reader.specs.Layout.{edition_in, start_at, body_at, size_at}
+use Rattle.reader.specs.Layout.{edition_in, body_at, size_at}
 use Rattle.reader.specs.Song.{note_count_in, hit_count_in}
-use Rattle.reader.specs.declared.layout.Layout.{Layout}
-
-abbrev pub layout_of : List ℕ → Layout
-layout_of bytes = record { edition = edition_in bytes; bodies = list_to (body_at bytes) 10; sizes = list_to (size_at bytes) 10; end = start_at bytes 10 }
 
 -- every body stands in the bytes, and no array is too small for it
 pub record Roomy (bytes : List ℕ) : Type 0 where

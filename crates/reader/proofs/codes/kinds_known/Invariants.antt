@@ -1,13 +1,10 @@
--- The hits tested so far, one more with each turn. Assumes nothing.
+-- The hits tested so far. Assumes nothing.
 use mathlib.Core.Path.{◌≡◌}
-use Prim.Native.Nat.{◌+◌, ◌-◌, ◌*◌, ◌≤◌}
+use Prim.Native.Nat.{◌+◌, ◌*◌}
 use lib.Dec.{leb}
 use Rattle.pages.specs.Bytes.{byte_at}
 use Rattle.reader.specs.Tests.{all_to}
 use Rattle.reader.proofs.codes.kinds_known.Given as goal
 
 abbrev pub invariant-loop-i : goal.invariant-loop-i
-invariant-loop-i l = (l.i ≤ l.n) × (l.ok ≡ all_to (λ k. leb (byte_at l.bytes (l.at + 10 * k + 1)) 3) l.i)
-
-abbrev pub decreases-loop-i : goal.decreases-loop-i
-decreases-loop-i l = l.n - l.i
+invariant-loop-i l = l.ok ≡ all_to (λ k. leb (byte_at l.bytes (l.at + 10 * k + 1)) 3) l.i

@@ -1,28 +1,16 @@
--- Its parts, each at its place; its numbers are finite. Assumes nothing.
-use native.Mathlib.Omega.{arith}
+-- Its numbers are finite. Assumes nothing.
 use Rattle.reader.specs.Song.{note_at}
 use Rattle.reader.proofs.TestedLaws.{note_told}
-use Rattle.reader.proofs.WidthLaws.{width_least}
 use Rattle.reader.proofs.event.note_at.Goals as goal
 
-pub byte_in-bar-requires : goal.byte_in-bar-requires
-byte_in-bar-requires c = omega (arith, c.requires.room, width_least c.args.edition)
-
-pub f32_at-time-requires : goal.f32_at-time-requires
+pub f32_at-requires-clause-finite : goal.f32_at-requires-clause-finite
 unfolding note_at
-f32_at-time-requires c = record { room = omega (arith, c.requires.room, width_least c.args.edition); finite = (note_told c.args.edition c.args.leads (note_at c.args.edition c.args.leads c.args.bytes.now c.args.at) c.requires.within).3.at }
+f32_at-requires-clause-finite c = let a = c.args in (note_told a.edition a.leads (note_at a.edition a.leads a.bytes.now a.at) c.requires.within).3.at
 
-pub byte_in-midi-requires : goal.byte_in-midi-requires
-byte_in-midi-requires c = omega (arith, c.requires.room, width_least c.args.edition)
-
-pub f32_at-vel-requires : goal.f32_at-vel-requires
+pub f32_at-requires-2-clause-finite : goal.f32_at-requires-2-clause-finite
 unfolding note_at
-f32_at-vel-requires c = record { room = omega (arith, c.requires.room, width_least c.args.edition); finite = (note_told c.args.edition c.args.leads (note_at c.args.edition c.args.leads c.args.bytes.now c.args.at) c.requires.within).3.vel }
+f32_at-requires-2-clause-finite c = let a = c.args in (note_told a.edition a.leads (note_at a.edition a.leads a.bytes.now a.at) c.requires.within).3.vel
 
-pub f32_at-dur-requires : goal.f32_at-dur-requires
+pub f32_at-requires-3-clause-finite : goal.f32_at-requires-3-clause-finite
 unfolding note_at
-f32_at-dur-requires c = record { room = omega (arith, c.requires.room, width_least c.args.edition); finite = (note_told c.args.edition c.args.leads (note_at c.args.edition c.args.leads c.args.bytes.now c.args.at) c.requires.within).3.dur }
-
-pub returns : goal.returns
-unfolding note_at
-returns c = cc
+f32_at-requires-3-clause-finite c = let a = c.args in (note_told a.edition a.leads (note_at a.edition a.leads a.bytes.now a.at) c.requires.within).3.dur

@@ -16,19 +16,19 @@ pub returns-then-not-formed : goal.returns-then-not-formed
 unfolding tested_of
 returns-then-not-formed c =
     let f = c.is_formed-formed in
-    let e : formed c.args.bytes.now ≡ false = sym f.ensures ∙ c.if-not-formed.true in
+    let e : formed c.args.fields.now.bytes.now ≡ false = sym f.ensures ∙ c.if-not-formed.true in
     rw e
 
 pub is_coded-coded-requires : goal.is_coded-coded-requires
-is_coded-coded-requires c = record { l_value = c.requires; roomy = formed_roomy c.args.bytes.now (sym c.is_formed-formed.ensures ∙ c.if-not-formed.false) }
+is_coded-coded-requires c = formed_roomy c.args.fields.now.bytes.now (sym c.is_formed-formed.ensures ∙ c.if-not-formed.false)
 
 pub song_passes-within-requires : goal.song_passes-within-requires
-song_passes-within-requires c = record { l_value = c.requires; roomy = formed_roomy c.args.bytes.now (sym c.is_formed-formed.ensures ∙ c.if-not-formed.false) }
+song_passes-within-requires c = formed_roomy c.args.fields.now.bytes.now (sym c.is_formed-formed.ensures ∙ c.if-not-formed.false)
 
 pub returns-then-not-coded-within : goal.returns-then-not-coded-within
 unfolding tested_of
 returns-then-not-coded-within c =
-    let b = c.args.bytes.now in
+    let b = c.args.fields.now.bytes.now in
     let w = c.song_passes-within in
     let k = c.is_coded-coded in
     let n : (coded b && within (song_in b)) ≡ false = told k.ensures w.ensures c.if-not-coded-within.true in
@@ -37,7 +37,7 @@ returns-then-not-coded-within c =
 pub returns : goal.returns
 unfolding tested_of
 returns c =
-    let b = c.args.bytes.now in
+    let b = c.args.fields.now.bytes.now in
     let w = c.song_passes-within in
     let k = c.is_coded-coded in
     let y : (coded b && within (song_in b)) ≡ true = told k.ensures w.ensures c.if-not-coded-within.false in
