@@ -1,15 +1,14 @@
 // The hits of a page: its own bar's without the early ones, which in song bar 0 stay, then the early ones of the bar
 // that follows.
-ghost use Rattle.std.specs.Prelude.{cond, map, ◌≡◌, ◌+◌, ◌-◌, ◌*◌, ◌<◌, ◌≤◌, length};
+ghost use Rattle.std.specs.Prelude.{map, ◌≡◌, ◌+◌, ◌-◌, ◌*◌, ◌<◌, ◌≤◌, length};
 ghost use Rattle.laws.specs.Lists.{joined};
 ghost use Rattle.laws.specs.Writes.{Wrote};
 ghost use Rattle.composer.specs.Early.{is_early};
 ghost use Rattle.composer.specs.Promise.{LanesPromise};
-ghost use Rattle.pages.specs.Bar.{shown};
 ghost use Rattle.pages.specs.Hits.{hits_field};
 ghost use Rattle.pages.specs.Inner.Hits.{in_part, hits_in, own_part, run_hits, HitsWithin, drum_run_of, heard_runs_of};
 ghost use Rattle.pages.specs.Lane.{hit_bytes, run_of, InLane};
-ghost use Rattle.pages.specs.Writable.{SizedLanes, FiniteHit, Writable};
+ghost use Rattle.pages.specs.Writable.{SizedLanes, Writable};
 ghost use Rattle.pages.specs.declared.hits.Part.{Part};
 ghost use Rattle.pages.specs.declared.lane.Lane.{Lane};
 

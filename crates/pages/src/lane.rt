@@ -70,13 +70,7 @@ impl Lane {
 }
 
 // A run of events, one after another.
-fn put_each<E: Event>(
-    buf: &mut [u8],
-    at: usize,
-    edition: Edition,
-    events: &[E],
-    run: Run,
-) -> usize
+fn put_each<E: Event>(buf: &mut [u8], at: usize, edition: Edition, events: &[E], run: Run) -> usize
     requires finite { All E.Finite events.now }
     requires within { (run.from ≤ run.to) × (run.to ≤ length events.now) }
     requires room { at + E.width edition * (run.to - run.from) ≤ length buf.old }
