@@ -107,13 +107,7 @@ fn put_page(buf: &mut [u8], s: &Score, p: Plays, runs: Runs, hits: HeardRuns, ba
 
 // The page of a song bar, if the buffer is as long as this very page. The layers that play are known, but for the
 // hits: they are of two bars, and are looked up.
-fn page_into(
-    s: &Score,
-    f: Form,
-    p: Plays,
-    bar: u64,
-    buf: &mut [u8],
-) -> Result<usize, Refusal>
+fn page_into(s: &Score, f: Form, p: Plays, bar: u64, buf: &mut [u8]) -> Result<usize, Refusal>
     requires paged { Paged s.now }
     requires chorded { Chorded s.now }
     requires bar_lt_bars { bar < f.bars }
