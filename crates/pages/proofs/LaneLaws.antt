@@ -4,7 +4,7 @@ use mathlib.Core.Path.{◌≡◌, refl, sym, ap, ◌∙◌}
 use mathlib.Core.Bool.{Bool, true, false}
 use mathlib.Core.List.{List, [], ◌∷◌, ◌++◌, map, map-map}
 use Prim.Native.Nat.{ℕ, zero, suc, ◌+◌, ◌-◌, ◌*◌, ◌≤◌, ◌<◌}
-use native.Mathlib.Nat.{mul-suc}
+use native.Mathlib.Nat.{mul-suc, sub-zero}
 use native.Mathlib.Numerals.{add-one}
 use native.Mathlib.Omega.{arith}
 use lib.Dec.{eqb, leb, ltb, leb-suc-suc}
@@ -14,7 +14,7 @@ use Rattle.std.proofs.lemmas.List.Sorted.{IsNonDecreasingBy-from_all_adjacent}
 use Rattle.laws.specs.Lanes.{Laid}
 use lib.ListN.{length, get_or, take, length-take, length-map}
 use Rattle.std.proofs.lemmas.List.Elements.{All-from_get_or}
-use lib.Seq.{length-take-le, get_or-take}
+use lib.Seq.{length-take-le, get_or-take, take_all}
 use Rattle.laws.specs.Lists.{joined, filter_of}
 use Rattle.laws.specs.Sorts.{count, All, Sorted}
 use Rattle.laws.specs.Writes.{Wrote}
@@ -24,9 +24,11 @@ use Rattle.composer.specs.declared.note.Hit.{Hit}
 use Rattle.composer.specs.declared.note.Note.{Note}
 use Rattle.composer.specs.declared.score.Score.{Score}
 use Rattle.pages.specs.Bar.{shown}
+use Rattle.pages.specs.Bytes.{field}
 use Rattle.pages.specs.Edition.{note_width}
-use Rattle.pages.specs.Lane.{width_of, count_in, sound_bytes, note_bytes, hit_bytes, bar_in, events_of, run_of, InLane, bars_of, earlier, bar_run, drawn_for, run_in}
+use Rattle.pages.specs.Lane.{tag_of, width_of, count_in, lane_size, sound_bytes, note_bytes, hit_bytes, bar_in, events_of, run_of, InLane, bars_of, earlier, bar_run, drawn_for, run_in}
 use Rattle.pages.specs.Page.{bar_size}
+use Rattle.pages.specs.Sheet.{lane_field}
 use Rattle.pages.specs.Writable.{Sized, SizedLanes}
 use Rattle.pages.specs.declared.edition.Edition.{Edition}
 use Rattle.pages.specs.declared.lane.Lane.{Lane}
@@ -151,6 +153,9 @@ count_bars edition s lane v =
 length_sized : {A B : Type 0} (f : A → B) {cap : ℕ} (xs : List A) (n : ℕ) → Sized cap xs n → length (map f (take n xs)) ≡ n
 length_sized f xs n p = length_map_take f xs n (omega (arith, p.size, p.few))
 
+whole_run : (es : List (List ℕ)) (n : ℕ) → length es ≡ n → run_of (record { from = 0; to = n }) es ≡ es
+whole_run es n e = take_all (n - 0) es (omega arith)
+
 module _ (s : Score) (p : SizedLanes s) where
   pub length_events : (edition : Edition) (lane : Lane) → length (events_of edition s lane) ≡ count_in s lane
   length_events edition Lane.Lead = length_sized (note_bytes edition) s.lead s.lead_count p.lead
@@ -160,6 +165,12 @@ module _ (s : Score) (p : SizedLanes s) where
 
   length_bars : (lane : Lane) → length (bars_of s lane) ≡ count_in s lane
   length_bars lane = rw (← bars_are Edition.Two s lane, length-map) (length_events Edition.Two lane)
+
+  -- a run of all events is the lane's field
+  pub lane_wrote : (edition : Edition) (lane : Lane) {b b' : List ℕ} {at r : ℕ}
+      → Wrote b b' at r (3 + width_of edition lane * (count_in s lane - 0)) (field (tag_of lane) (joined (run_of (record { from = 0; to = count_in s lane }) (events_of edition s lane))))
+      → Wrote b b' at r (3 + lane_size edition s lane) (lane_field edition s lane)
+  lane_wrote edition lane w = rw (whole_run (events_of edition s lane) (count_in s lane) (length_events edition lane), sub-zero (count_in s lane)) at w
 
 module _ (s : Score) (p : LanesPromise s) where
   events_sorted : (edition : Edition) (lane : Lane) → Sorted (by bar_in) (events_of edition s lane)
