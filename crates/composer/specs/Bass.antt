@@ -4,14 +4,13 @@ use Rattle.streams.specs.declared.stream.NoiseStream.{NoiseStream}
 use Rattle.composer.specs.Chord.{root_class_of, past_chord}
 use Rattle.composer.specs.Note.{no_note}
 use Rattle.composer.specs.Style.{bass_style_of}
-use Rattle.composer.specs.Bass.Rhythm.{past_steps, bass_rhythms_of}
+use Rattle.composer.specs.Bass.Rhythm.{Steps, past_steps, bass_rhythms_of}
 use Rattle.composer.specs.Bass.Line.{bar_played}
 use Rattle.composer.specs.declared.chord.Chord.{Chord}
 use Rattle.composer.specs.declared.harmony.Harmony.{Harmony}
 use Rattle.composer.specs.declared.style.Style.{Style}
 use Rattle.composer.specs.declared.style.BassStyle.{BassStyle}
 use Rattle.composer.specs.declared.bass.BassLane.{BassLane}
-use Rattle.composer.specs.declared.bass.rhythm.Steps.{Steps}
 use Rattle.composer.specs.declared.bass.line.BarPart.{BarPart}
 pub mod Line
 pub mod Promise

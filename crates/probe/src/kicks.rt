@@ -38,7 +38,10 @@ fn fill(a: Result<KickTimes, Refusal>, out: &mut [u64])
     ensures { out.new ≡ list_to (kicks_word_of a) (length out.old) }
 {
     let refusal = outcome_number(a);
-    let times = a.unwrap_or(KickTimes { at: [0.0; 98], n: 0 });
+    let times = a.unwrap_or(KickTimes {
+        at: [0.0; 98],
+        n: 0,
+    });
     for (i, place) in out.iter_mut().enumerate() {
         *place = times_word(refusal, &times, i);
     }

@@ -10,13 +10,12 @@ use Rattle.streams.specs.declared.stream.NoiseStream.{NoiseStream}
 use Rattle.streams.specs.declared.stream.Draw.{Draw}
 use Rattle.composer.specs.Harmony.{Tonal}
 use Rattle.composer.specs.Bass.{part_of, bars_played}
-use Rattle.composer.specs.Bass.Rhythm.{Rising, past_steps, bass_rhythms_of}
+use Rattle.composer.specs.Bass.Rhythm.{Steps, Rising, past_steps, bass_rhythms_of}
 use Rattle.composer.specs.Bass.Line.{bar_played, Playable}
 use Rattle.composer.specs.declared.chord.Chord.{Chord}
 use Rattle.composer.specs.declared.harmony.Harmony.{Harmony}
 use Rattle.composer.specs.declared.style.BassStyle.{BassStyle}
 use Rattle.composer.specs.declared.bass.BassLane.{BassLane}
-use Rattle.composer.specs.declared.bass.rhythm.Steps.{Steps}
 use Rattle.composer.proofs.bass.RhythmLaws.{rhythms_rising}
 use Rattle.composer.proofs.bass.LineLaws.{bar_count}
 

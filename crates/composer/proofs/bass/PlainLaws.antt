@@ -24,7 +24,7 @@ use Rattle.streams.specs.declared.stream.NoiseStream.{NoiseStream}
 use Rattle.streams.specs.declared.stream.Draw.{Draw}
 use Rattle.composer.specs.Bass.{part_of, bars_played, no_bass, bass_of}
 use Rattle.composer.specs.Bass.Line.{bass_lag, pickup_lag, pickup_velocity, bass_gate, step_s_of, loop_s_of, struck_of, root_note_of, pickup_note_of, later_velocity, later_note_of, pickup_drawn_of, note_drawn_of, gap_of, onset_of, held_of, played_note_of, play_of, bar_played, Playable}
-use Rattle.composer.specs.Bass.Rhythm.{step_p, first_beat_sum, root_from, root_step_of, more_steps, one_step_of, steps_to, root_alone, bass_rhythm_of, no_steps, past_steps, one_rhythm_of, rhythms_to, bass_rhythms_of, Rising}
+use Rattle.composer.specs.Bass.Rhythm.{Steps, step_p, first_beat_sum, root_from, root_step_of, more_steps, one_step_of, steps_to, root_alone, bass_rhythm_of, no_steps, past_steps, one_rhythm_of, rhythms_to, bass_rhythms_of, Rising}
 use Rattle.composer.specs.Compose.{beat_s_of}
 use Rattle.composer.specs.Harmony.{Tonal}
 use Rattle.composer.specs.Note.{zero32, past_note}
@@ -41,7 +41,6 @@ use Rattle.composer.specs.declared.style.Style.{Style}
 use Rattle.composer.specs.declared.style.Style.TheVariants.{Hiphop, Sleep}
 use Rattle.composer.specs.declared.style.BassStyle.{BassStyle}
 use Rattle.composer.specs.declared.bass.BassLane.{BassLane}
-use Rattle.composer.specs.declared.bass.rhythm.Steps.{Steps}
 use Rattle.composer.specs.declared.bass.line.BarPart.{BarPart}
 use Rattle.composer.specs.declared.bass.line.Strike.{Strike}
 use Rattle.composer.proofs.RangeLaws.{between_in, stays, draw_in, after_in, draw_fits, after_fits, quickest, slowest, beat_in, bar_in_lem, start_in}

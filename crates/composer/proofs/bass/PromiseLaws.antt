@@ -16,7 +16,7 @@ use Rattle.composer.specs.Range.{Within}
 use Rattle.composer.specs.Style.{bass_style_of}
 use Rattle.composer.specs.Harmony.{Tonal}
 use Rattle.composer.specs.Bass.{part_of, bars_played, no_bass, bass_of}
-use Rattle.composer.specs.Bass.Rhythm.{Rising, past_steps, bass_rhythms_of}
+use Rattle.composer.specs.Bass.Rhythm.{Steps, Rising, past_steps, bass_rhythms_of}
 use Rattle.composer.specs.Bass.Promise.{SoundsIn}
 use Rattle.composer.specs.declared.chord.Chord.{Chord}
 use Rattle.composer.specs.declared.note.Note.{Note}
@@ -24,7 +24,6 @@ use Rattle.composer.specs.declared.harmony.Harmony.{Harmony}
 use Rattle.composer.specs.declared.style.Style.{Style}
 use Rattle.composer.specs.declared.style.BassStyle.{BassStyle}
 use Rattle.composer.specs.declared.bass.BassLane.{BassLane}
-use Rattle.composer.specs.declared.bass.rhythm.Steps.{Steps}
 use Rattle.composer.proofs.ChordLaws.{root_fifth}
 use Rattle.composer.proofs.HarmonyLaws.{tonal_root}
 use Rattle.composer.proofs.bass.RhythmLaws.{rhythms_rising}

@@ -21,7 +21,7 @@ use Rattle.composer.specs.Plain.{latest, softest, loudest, shortest, longest, Fi
 use Rattle.composer.specs.Spread.{draw_of, after_of}
 use Rattle.composer.specs.Style.{lead_style_of}
 use Rattle.composer.specs.Lead.{sung_of, lead_of}
-use Rattle.composer.specs.Lead.Beats.{past_beats}
+use Rattle.composer.specs.Lead.Beats.{Beats, past_beats}
 use Rattle.composer.specs.Lead.Ground.{ground_of}
 use Rattle.composer.specs.Lead.Line.{place_of}
 use Rattle.composer.specs.Lead.Melody.{past_lead, velocity_of, step_of, sing_of, bar_to, start_of, nothing_sung, bars_to, melody_of}
@@ -35,7 +35,6 @@ use Rattle.composer.specs.declared.harmony.Harmony.{Harmony}
 use Rattle.composer.specs.declared.style.LeadStyle.{LeadStyle}
 use Rattle.composer.specs.declared.style.Style.{Style}
 use Rattle.composer.specs.declared.style.Style.TheVariants.{Hiphop, Sleep}
-use Rattle.composer.specs.declared.lead.beats.Beats.{Beats}
 use Rattle.composer.specs.declared.lead.ground.Ground.{Ground}
 use Rattle.composer.specs.declared.lead.melody.LeadNote.{LeadNote}
 use Rattle.composer.specs.declared.lead.melody.Sung.{Sung}

@@ -19,7 +19,7 @@ use Rattle.streams.specs.declared.stream.NoiseStream.{NoiseStream}
 use Rattle.composer.specs.Chord.{past_chord}
 use Rattle.composer.specs.Harmony.{Tonal}
 use Rattle.composer.specs.Lead.{sung_of, lead_of}
-use Rattle.composer.specs.Lead.Beats.{past_beats}
+use Rattle.composer.specs.Lead.Beats.{Beats, past_beats}
 use Rattle.composer.specs.Lead.Ground.{ground_of}
 use Rattle.composer.specs.Lead.Line.{is_strong_of, place_of, carried_of}
 use Rattle.composer.specs.Lead.Melody.{past_lead, step_of, sing_of, bar_to, start_of, nothing_sung, bars_to, melody_of}
@@ -34,7 +34,6 @@ use Rattle.composer.specs.declared.chord.Chord.{Chord}
 use Rattle.composer.specs.declared.harmony.Harmony.{Harmony}
 use Rattle.composer.specs.declared.style.Style.{Style}
 use Rattle.composer.specs.declared.style.LeadStyle.{LeadStyle}
-use Rattle.composer.specs.declared.lead.beats.Beats.{Beats}
 use Rattle.composer.specs.declared.lead.ground.Ground.{Ground}
 use Rattle.composer.specs.declared.lead.line.Line.{Line}
 use Rattle.composer.specs.declared.lead.line.Place.{Place}

@@ -11,12 +11,11 @@ use Rattle.composer.specs.Chord.{in_octave_from}
 use Rattle.composer.specs.Spread.{draw_of, after_of}
 use Rattle.composer.specs.Timing.{sixteenth_beats, bar_s_of, bar_start_of}
 use Rattle.composer.specs.Style.{odds_of}
-use Rattle.composer.specs.Bass.Rhythm.{Rising}
+use Rattle.composer.specs.Bass.Rhythm.{Steps, Rising}
 use Rattle.composer.specs.declared.note.NoteRole.{NoteRole}
 use Rattle.composer.specs.declared.spread.Spread.{Spread}
 use Rattle.composer.specs.declared.style.BassStyle.{BassStyle}
 use Rattle.composer.specs.declared.bass.BassLane.{BassLane}
-use Rattle.composer.specs.declared.bass.rhythm.Steps.{Steps}
 use Rattle.composer.specs.declared.bass.line.BarPart.{BarPart}
 use Rattle.composer.specs.declared.bass.line.Strike.{Strike}
 use Rattle.composer.specs.declared.note.Note.{Note}

@@ -6,7 +6,11 @@ use Rattle.laws.specs.Lists.{pad}
 use Rattle.laws.specs.Order.{total_le}
 use Rattle.laws.specs.Sorts.{sort}
 use Rattle.composer.specs.Note.{zero32}
-use Rattle.composer.specs.declared.lead.beats.Beats.{Beats}
+use Rattle.composer.specs.declared.few.Few.{Few}
+
+-- a bar's beats: the first n entries, in order; the others are 0
+abbrev pub Beats : Type 0
+Beats = Few Float 7
 
 abbrev pub past_beats : Beats
 past_beats = record { at = []; n = 0 }
