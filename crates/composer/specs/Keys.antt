@@ -20,7 +20,7 @@ use Rattle.composer.specs.declared.style.Comp.{Comp}
 use Rattle.composer.specs.declared.style.Density.{Density}
 use Rattle.composer.specs.declared.style.KeysStyle.{KeysStyle}
 use Rattle.composer.specs.declared.style.Style.{Style}
-use Rattle.composer.specs.declared.keys.KeysLane.{KeysLane}
+use Rattle.composer.specs.declared.few.Few.{Few}
 use Rattle.composer.specs.declared.keys.Shell.{Shell}
 use Rattle.composer.specs.declared.keys.Dyad.{Dyad}
 
@@ -71,15 +71,18 @@ unfoldable pub density_draw_of : Density → NoiseStream → Draw Float
 density_draw_of (Density.Drawn spread) s = draw_of spread s
 density_draw_of (Density.Fixed p) s = record { value = p; stream = s }
 
--- ---- the lane
+-- ---- the lane: its notes, in the order drawn, and the stream after their draws
+abbrev pub KeysLane : Type 0
+KeysLane = Draw (Few Note 128)
+
 abbrev pub empty_of : NoiseStream → KeysLane
-empty_of s = record { notes = replicate 128 no_note; count = 0; stream = s }
+empty_of s = record { value = record { at = replicate 128 no_note; n = 0 }; stream = s }
 
 abbrev pub moved_of : KeysLane → NoiseStream → KeysLane
-moved_of l s = record { notes = l.notes; count = l.count; stream = s }
+moved_of l s = record { value = l.value; stream = s }
 
 abbrev pub push_of : KeysLane → Note → KeysLane
-push_of l note = record { notes = set l.notes l.count note; count = l.count + 1; stream = l.stream }
+push_of l note = record { value = record { at = set l.value.at l.value.n note; n = l.value.n + 1 }; stream = l.stream }
 
 -- when an eighth of a bar begins: an off-eighth swings
 abbrev pub grid_at : ℕ → ℕ → Float → Float

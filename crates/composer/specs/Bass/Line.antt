@@ -15,7 +15,7 @@ use Rattle.composer.specs.Bass.Rhythm.{Steps, Rising}
 use Rattle.composer.specs.declared.note.NoteRole.{NoteRole}
 use Rattle.composer.specs.declared.spread.Spread.{Spread}
 use Rattle.composer.specs.declared.style.BassStyle.{BassStyle}
-use Rattle.composer.specs.declared.bass.BassLane.{BassLane}
+use Rattle.composer.specs.declared.few.Few.{Few}
 use Rattle.composer.specs.declared.bass.line.BarPart.{BarPart}
 use Rattle.composer.specs.declared.bass.line.Strike.{Strike}
 use Rattle.composer.specs.declared.note.Note.{Note}
@@ -118,11 +118,15 @@ played_note_of s p style beatS i =
       stream = d.stream;
     }
 
+-- ---- the lane: its notes, in the order drawn, and the stream after their draws
+abbrev pub BassLane : Type 0
+BassLane = Draw (Few Note 104)
+
 -- one note more
 unfoldable pub play_of : BassLane → BarPart → BassStyle → Float → ℕ → BassLane
 play_of l p style beatS i =
     let d = played_note_of l.stream p style beatS i in
-    record { notes = set l.notes l.count d.value; count = l.count + 1; stream = d.stream }
+    record { value = record { at = set l.value.at l.value.n d.value; n = l.value.n + 1 }; stream = d.stream }
 
 -- the bar's first i notes
 unfoldable pub bar_played : BassLane → BarPart → BassStyle → Float → ℕ → BassLane
