@@ -1,5 +1,5 @@
 -- Any other style is refused, and what holds of every song: each stage's laws, at its own stream. Assumes nothing.
-use mathlib.Core.Path.{◌≡◌, refl, sym, ap, subst}
+use mathlib.Core.Path.{◌≡◌, refl, sym, subst}
 use mathlib.Core.Bool.{Bool, true, false}
 use mathlib.Core.List.{List, [], ◌∷◌, ◌++◌, map}
 use Prim.Native.Nat.{ℕ, zero, suc, ◌-◌, ◌≤◌, ◌<◌}
@@ -19,7 +19,7 @@ use Rattle.composer.specs.Compose.{beat_s_of, song_by, composed_of, style_by, co
 use Rattle.composer.specs.Drums.{drums_of}
 use Rattle.composer.specs.Early.{EarlyPromise}
 use Rattle.composer.specs.Harmony.{pentatonic, colour, class_in, classes_of, melody_pcs_of, harmony_of, Tonal}
-use Rattle.composer.specs.Keys.{keys_of}
+use Rattle.composer.specs.Keys.{KeysLane, keys_of}
 use Rattle.composer.specs.Lead.{lead_of}
 use Rattle.composer.specs.Promise.{LanesPromise, BarsPromise, EventsPromise, ScorePromise, DrawsPromise, SongPromise}
 use Rattle.composer.specs.Range.{Within, RangePromise}
@@ -28,13 +28,12 @@ use Rattle.composer.specs.Refusal.{Refuses, answered}
 use Rattle.composer.specs.Style.{style_number_of, lead_style_of}
 use Rattle.composer.specs.Tempo.{beats_of, tempo_of}
 use Rattle.composer.specs.Voice.{lead_voice_of}
-use Rattle.composer.specs.declared.bass.BassLane.{BassLane}
+use Rattle.composer.specs.Bass.Line.{BassLane}
 use Rattle.composer.specs.declared.compose.Composed.{Composed}
-use Rattle.composer.specs.declared.drums.DrumLane.{DrumLane}
+use Rattle.composer.specs.Drums.Kit.{DrumLane}
 use Rattle.composer.specs.declared.harmony.Harmony.{Harmony}
 use Rattle.composer.specs.declared.harmony.Scale.{Scale}
-use Rattle.composer.specs.declared.keys.KeysLane.{KeysLane}
-use Rattle.composer.specs.declared.lead.LeadLane.{LeadLane}
+use Rattle.composer.specs.Lead.Played.{LeadLane}
 use Rattle.composer.specs.declared.refusal.Refusal.{Refusal}
 use Rattle.composer.specs.declared.score.Score.{Score}
 use Rattle.composer.specs.declared.style.Style.{Style}

@@ -13,13 +13,12 @@ use Rattle.laws.specs.Sorts.{count, insert, sort, Sorted}
 use Rattle.laws.proofs.Sorts.{sort_pad, length_sort, count_sort, floats_sorted}
 use Rattle.composer.specs.Note.{zero32}
 use Rattle.composer.specs.Refusal.{Gives, Refuses, answered}
-use Rattle.composer.specs.Kicks.{is_kick, times_of, kick_times, kicks_in, kicks_of}
+use Rattle.composer.specs.Kicks.{KickTimes, is_kick, times_of, kick_times, kicks_in, kicks_of}
 use denote.Enum.Bare.{sameb}
 use Rattle.composer.specs.contracts.note.DrumKind.{the_type}
 use Rattle.composer.specs.declared.note.Hit.{Hit}
 use Rattle.composer.specs.declared.note.DrumKind.{DrumKind}
 use Rattle.composer.specs.declared.score.Score.{Score}
-use Rattle.composer.specs.declared.kicks.KickTimes.{KickTimes}
 
 -- ---- the loop: what the test says, and a hit more
 pub kick_test : (k : DrumKind) → sameb the_type k DrumKind.Kick ≡ is_kick k

@@ -4,14 +4,12 @@ use Rattle.streams.specs.declared.stream.NoiseStream.{NoiseStream}
 use Rattle.composer.specs.Chord.{root_class_of, past_chord}
 use Rattle.composer.specs.Note.{no_note}
 use Rattle.composer.specs.Style.{bass_style_of}
-use Rattle.composer.specs.Bass.Rhythm.{past_steps, bass_rhythms_of}
-use Rattle.composer.specs.Bass.Line.{bar_played}
+use Rattle.composer.specs.Bass.Rhythm.{Steps, past_steps, bass_rhythms_of}
+use Rattle.composer.specs.Bass.Line.{BassLane, bar_played}
 use Rattle.composer.specs.declared.chord.Chord.{Chord}
 use Rattle.composer.specs.declared.harmony.Harmony.{Harmony}
 use Rattle.composer.specs.declared.style.Style.{Style}
 use Rattle.composer.specs.declared.style.BassStyle.{BassStyle}
-use Rattle.composer.specs.declared.bass.BassLane.{BassLane}
-use Rattle.composer.specs.declared.bass.rhythm.Steps.{Steps}
 use Rattle.composer.specs.declared.bass.line.BarPart.{BarPart}
 pub mod Line
 pub mod Promise
@@ -37,7 +35,7 @@ bars_played chords rhythms style beatS l (suc b) =
     bar_played (bars_played chords rhythms style beatS l b) p style beatS p.steps.n
 
 abbrev pub no_bass : NoiseStream → BassLane
-no_bass s = record { notes = replicate 104 no_note; count = 0; stream = s }
+no_bass s = record { value = record { at = replicate 104 no_note; n = 0 }; stream = s }
 
 -- every bar's rhythm before any note
 unfoldable pub bass_of : NoiseStream → Harmony → Style → Float → BassLane

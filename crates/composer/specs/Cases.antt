@@ -8,7 +8,7 @@ use Rattle.composer.specs.Bass.Line.{bass_pitch_of, pickup_pitch_of}
 use Rattle.composer.specs.Chord.{degree_at, voiced_of}
 use Rattle.composer.specs.Form.Body.{no_cut, body_bar_of}
 use Rattle.composer.specs.Harmony.{pentatonic}
-use Rattle.composer.specs.Lead.Beats.{beats_of, list_of, settled}
+use Rattle.composer.specs.Lead.Beats.{Beats, beats_of, list_of, settled}
 use Rattle.composer.specs.Lead.Rhythm.{fallback_of}
 use Rattle.composer.specs.Lead.Scale.{pool_by, snapped_of}
 use Rattle.composer.specs.Lead.Tones.{nearest_of}
@@ -16,7 +16,6 @@ use Rattle.composer.specs.declared.form.decisions.Opening.{Opening}
 use Rattle.composer.specs.declared.form.decisions.Closing.{Closing}
 use Rattle.composer.specs.declared.form.decisions.Thinning.{Thinning}
 use Rattle.composer.specs.declared.form.decisions.Decisions.{Decisions}
-use Rattle.composer.specs.declared.lead.beats.Beats.{Beats}
 
 -- 0.5, 0.75, 1.0, 2.0, 70.5
 abbrev pub half : Float

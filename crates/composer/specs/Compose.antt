@@ -9,17 +9,16 @@ use Rattle.composer.specs.Bass.{bass_of}
 use Rattle.composer.specs.Chord.{no_chord}
 use Rattle.composer.specs.Drums.{drums_of}
 use Rattle.composer.specs.Harmony.{harmony_of}
-use Rattle.composer.specs.Keys.{keys_of}
+use Rattle.composer.specs.Keys.{KeysLane, keys_of}
 use Rattle.composer.specs.Lead.{lead_of}
 use Rattle.composer.specs.Note.{zero32, no_note, no_hit}
 use Rattle.composer.specs.Style.{style_named}
 use Rattle.composer.specs.Tempo.{tempo_of}
 use Rattle.composer.specs.Voice.{lead_voice_of}
-use Rattle.composer.specs.declared.bass.BassLane.{BassLane}
+use Rattle.composer.specs.Bass.Line.{BassLane}
 use Rattle.composer.specs.declared.compose.Composed.{Composed}
-use Rattle.composer.specs.declared.drums.DrumLane.{DrumLane}
-use Rattle.composer.specs.declared.keys.KeysLane.{KeysLane}
-use Rattle.composer.specs.declared.lead.LeadLane.{LeadLane}
+use Rattle.composer.specs.Drums.Kit.{DrumLane}
+use Rattle.composer.specs.Lead.Played.{LeadLane}
 use Rattle.composer.specs.declared.refusal.Refusal.{Refusal}
 use Rattle.composer.specs.declared.score.Score.{Score}
 use Rattle.composer.specs.declared.style.Style.{Style}
@@ -37,14 +36,14 @@ song_by style h t l k d b v = record {
     style = style;
     bpm = t.value;
     bar_chords = h.value.bars;
-    lead = l.notes;
-    lead_count = l.count;
-    keys = k.notes;
-    keys_count = k.count;
-    hits = d.hits;
-    hit_count = d.count;
-    bass = b.notes;
-    bass_count = b.count;
+    lead = l.value.at;
+    lead_count = l.value.n;
+    keys = k.value.at;
+    keys_count = k.value.n;
+    hits = d.value.at;
+    hit_count = d.value.n;
+    bass = b.value.at;
+    bass_count = b.value.n;
     lead_voice = v.value;
   };
   scale = h.value.scale;

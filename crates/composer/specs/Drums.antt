@@ -8,11 +8,10 @@ use Rattle.composer.specs.Note.{no_hit}
 use Rattle.composer.specs.Spread.{draw_of}
 use Rattle.composer.specs.Timing.{bar_start_of}
 use Rattle.composer.specs.Drums.Grooves.{hiphop_groove_of, sleep_groove}
-use Rattle.composer.specs.Drums.Kit.{drawn_on, lay_kicks_of, lay_snares_of, lay_hats_of}
+use Rattle.composer.specs.Drums.Kit.{DrumLane, drawn_on, lay_kicks_of, lay_snares_of, lay_hats_of}
 use Rattle.composer.specs.declared.spread.Spread.{Spread}
 use Rattle.composer.specs.declared.style.Style.{Style}
 use Rattle.composer.specs.declared.style.Style.TheVariants.{Hiphop, Sleep}
-use Rattle.composer.specs.declared.drums.DrumLane.{DrumLane}
 use Rattle.composer.specs.declared.drums.grooves.Groove.{Groove}
 use Rattle.composer.specs.declared.drums.kit.Bar.{Bar}
 pub mod Grooves
@@ -38,7 +37,7 @@ bars_to l g beatS zero = l
 bars_to l g beatS (suc n) = lay_bar_of (bars_to l g beatS n) g beatS n
 
 abbrev pub no_hits : NoiseStream → DrumLane
-no_hits s = record { hits = replicate 98 no_hit; count = 0; stream = s }
+no_hits s = record { value = record { at = replicate 98 no_hit; n = 0 }; stream = s }
 
 unfoldable pub lay_groove_of : NoiseStream → Groove → Float → DrumLane
 lay_groove_of s g beatS = bars_to (no_hits s) g beatS 8

@@ -1,11 +1,12 @@
 -- The keys stage: the comp over each bar's chord. Definitions only.
-use Rattle.std.specs.Prelude.{Bool, cond, ◌||◌, List, [], ◌∷◌, ℕ, zero, suc, ◌+◌, ◌*◌, ◌%◌, eqb, get_or, set, replicate, Float}
+use Rattle.std.specs.Prelude.{Bool, cond, ◌||◌, List, [], ◌∷◌, ℕ, zero, suc, ◌+◌, ◌*◌, ◌%◌, eqb, get_or, replicate, Float}
 use Rattle.std.specs.Float.{binary32}
 use Rattle.std.specs.Float.Ieee.{of_bits, add, mul, div}
 use Rattle.laws.specs.Floats.{f32_of}
 use Rattle.streams.specs.Draw.{chance_of, pick_of}
 use Rattle.streams.specs.declared.stream.NoiseStream.{NoiseStream}
 use Rattle.streams.specs.declared.stream.Draw.{Draw}
+use Rattle.composer.specs.Few.{one_more}
 use Rattle.composer.specs.Chord.{root_class_of, in_octave_from, past_chord}
 use Rattle.composer.specs.Note.{no_note}
 use Rattle.composer.specs.Spread.{draw_of, after_of}
@@ -20,7 +21,7 @@ use Rattle.composer.specs.declared.style.Comp.{Comp}
 use Rattle.composer.specs.declared.style.Density.{Density}
 use Rattle.composer.specs.declared.style.KeysStyle.{KeysStyle}
 use Rattle.composer.specs.declared.style.Style.{Style}
-use Rattle.composer.specs.declared.keys.KeysLane.{KeysLane}
+use Rattle.composer.specs.declared.few.Few.{Few}
 use Rattle.composer.specs.declared.keys.Shell.{Shell}
 use Rattle.composer.specs.declared.keys.Dyad.{Dyad}
 
@@ -71,15 +72,18 @@ unfoldable pub density_draw_of : Density → NoiseStream → Draw Float
 density_draw_of (Density.Drawn spread) s = draw_of spread s
 density_draw_of (Density.Fixed p) s = record { value = p; stream = s }
 
--- ---- the lane
+-- ---- the lane: its notes, in the order drawn, and the stream after their draws
+abbrev pub KeysLane : Type 0
+KeysLane = Draw (Few Note 128)
+
 abbrev pub empty_of : NoiseStream → KeysLane
-empty_of s = record { notes = replicate 128 no_note; count = 0; stream = s }
+empty_of s = record { value = record { at = replicate 128 no_note; n = 0 }; stream = s }
 
 abbrev pub moved_of : KeysLane → NoiseStream → KeysLane
-moved_of l s = record { notes = l.notes; count = l.count; stream = s }
+moved_of l s = record { value = l.value; stream = s }
 
 abbrev pub push_of : KeysLane → Note → KeysLane
-push_of l note = record { notes = set l.notes l.count note; count = l.count + 1; stream = l.stream }
+push_of l note = record { value = one_more l.value note; stream = l.stream }
 
 -- when an eighth of a bar begins: an off-eighth swings
 abbrev pub grid_at : ℕ → ℕ → Float → Float

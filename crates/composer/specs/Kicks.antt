@@ -8,7 +8,11 @@ use Rattle.composer.specs.declared.refusal.Refusal.{Refusal}
 use Rattle.composer.specs.declared.note.Hit.{Hit}
 use Rattle.composer.specs.declared.note.DrumKind.{DrumKind}
 use Rattle.composer.specs.declared.score.Score.{Score}
-use Rattle.composer.specs.declared.kicks.KickTimes.{KickTimes}
+use Rattle.composer.specs.declared.few.Few.{Few}
+
+-- the times of the kicks, in order; the entries behind the first n are 0
+abbrev pub KickTimes : Type 0
+KickTimes = Few Float 98
 
 abbrev pub is_kick : DrumKind → Bool
 is_kick DrumKind.Kick = true

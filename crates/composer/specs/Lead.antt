@@ -5,10 +5,9 @@ use Rattle.composer.specs.Style.{lead_style_of}
 use Rattle.composer.specs.Lead.Rhythm.{rhythm_of}
 use Rattle.composer.specs.Lead.Scale.{pool_of}
 use Rattle.composer.specs.Lead.Melody.{melody_of}
-use Rattle.composer.specs.Lead.Played.{played_of}
+use Rattle.composer.specs.Lead.Played.{LeadLane, played_of}
 use Rattle.composer.specs.declared.style.Style.{Style}
 use Rattle.composer.specs.declared.harmony.Harmony.{Harmony}
-use Rattle.composer.specs.declared.lead.LeadLane.{LeadLane}
 use Rattle.composer.specs.declared.lead.melody.Sung.{Sung}
 pub mod Answer
 pub mod Beats

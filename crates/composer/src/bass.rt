@@ -5,21 +5,17 @@ ghost use Rattle.composer.specs.Bass.{bass_of};
 
 use crate::bass::line::{BarPart, played_note};
 use crate::bass::rhythm::bass_rhythms;
+use crate::few::Few;
 use crate::harmony::Harmony;
 use crate::note::{NO_NOTE, Note};
 use crate::style::{Style, bass_style};
-use streams::stream::NoiseStream;
+use streams::stream::{Draw, NoiseStream};
 
 pub mod line;
 pub mod rhythm;
 
-// The notes so far, and the stream after their draws.
-#[derive(Clone, Copy)]
-pub struct BassLane {
-    pub notes: [Note; 104],
-    pub count: usize,
-    pub stream: NoiseStream,
-}
+// The notes, in the order drawn, and the stream after their draws; the others are zero.
+pub type BassLane = Draw<Few<Note, 104>>;
 
 // Every bar's rhythm before any note, since a bar's last note is held by where the next bar starts.
 pub(crate) fn bass(s: NoiseStream, h: Harmony, style: Style, beat_s: f32) -> BassLane
@@ -49,9 +45,11 @@ pub(crate) fn bass(s: NoiseStream, h: Harmony, style: Style, beat_s: f32) -> Bas
             stream = d.stream;
         }
     }
-    BassLane {
-        notes,
-        count,
+    Draw {
+        value: Few {
+            at: notes,
+            n: count,
+        },
         stream,
     }
 }

@@ -53,23 +53,23 @@ fn composed_of(style: Style, seed: u64) -> Composed
     let vd = lead_voice(vs, style);
     let bars = h.bars;
     let scale = h.scale;
-    let lead_notes = ld.notes;
-    let keys_notes = kd.notes;
-    let hits = dd.hits;
-    let bass_notes = bd.notes;
+    let lead_notes = ld.value.at;
+    let keys_notes = kd.value.at;
+    let hits = dd.value.at;
+    let bass_notes = bd.value.at;
     let voice = vd.value;
     let score = Score {
         style: style,
         bpm: td.value,
         bar_chords: bars,
         lead: lead_notes,
-        lead_count: ld.count,
+        lead_count: ld.value.n,
         keys: keys_notes,
-        keys_count: kd.count,
+        keys_count: kd.value.n,
         hits: hits,
-        hit_count: dd.count,
+        hit_count: dd.value.n,
         bass: bass_notes,
-        bass_count: bd.count,
+        bass_count: bd.value.n,
         lead_voice: voice,
     };
     let counters = Counters {

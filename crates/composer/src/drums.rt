@@ -4,23 +4,19 @@ ghost use Rattle.composer.specs.Drums.{bar_of, lay_groove_of, drums_of};
 
 use crate::drums::grooves::{Groove, SLEEP_GROOVE, hiphop_groove};
 use crate::drums::kit::{Bar, hat_hit, kick_count, kick_hit, kick_of, snare_hit};
+use crate::few::Few;
 use crate::note::{Hit, NO_HIT};
 use crate::spread::Spread;
 use crate::style::Style;
 use crate::timing::bar_start;
 use streams::draw::{chance, pick};
-use streams::stream::NoiseStream;
+use streams::stream::{Draw, NoiseStream};
 
 pub mod grooves;
 pub mod kit;
 
-// The first `count` hits are the lane's, in the order drawn; the others are zero.
-#[derive(Clone, Copy)]
-pub struct DrumLane {
-    pub hits: [Hit; 98],
-    pub count: usize,
-    pub stream: NoiseStream,
-}
+// The hits, in the order drawn, and the stream after their draws; the others are zero.
+pub type DrumLane = Draw<Few<Hit, 98>>;
 
 // Each bar's wobble, which all its hits share.
 const WOBBLE: Spread = Spread {
@@ -82,9 +78,8 @@ fn lay_groove(s: NoiseStream, g: Groove, beat_s: f32) -> DrumLane
             stream = d.stream;
         }
     }
-    DrumLane {
-        hits,
-        count,
+    Draw {
+        value: Few { at: hits, n: count },
         stream,
     }
 }

@@ -5,6 +5,7 @@ ghost use Rattle.composer.specs.Harmony.{Tonal};
 ghost use Rattle.composer.specs.Keys.{shell_of, placed_shell, upper_of, density_draw_of, grid_at, dyad_of, tone_of, keys_of};
 
 use crate::chord::{Chord, OCTAVE, in_octave_from};
+use crate::few::Few;
 use crate::harmony::Harmony;
 use crate::note::{NO_NOTE, Note, NoteRole};
 use crate::spread::Spread;
@@ -43,13 +44,8 @@ pub struct Shell {
     pub seventh: u8,
 }
 
-// The first `count` notes are the keys', in the order drawn; the others are zero.
-#[derive(Clone, Copy)]
-pub struct KeysLane {
-    pub notes: [Note; 128],
-    pub count: usize,
-    pub stream: NoiseStream,
-}
+// The notes, in the order drawn, and the stream after their draws; the others are zero.
+pub type KeysLane = Draw<Few<Note, 128>>;
 
 // A struck shell.
 #[derive(Clone, Copy)]
@@ -197,9 +193,11 @@ pub(crate) fn keys(s: NoiseStream, h: Harmony, style: Style, beat_s: f32) -> Key
             }
         }
     }
-    KeysLane {
-        notes,
-        count,
+    Draw {
+        value: Few {
+            at: notes,
+            n: count,
+        },
         stream,
     }
 }

@@ -2,17 +2,14 @@
 ghost use Rattle.std.specs.Prelude.{◌≡◌, ◌+◌, ◌<◌, ◌≤◌, take};
 ghost use Rattle.composer.specs.Kicks.{kick_times, times_of, kicks_of, unbeaten_of};
 
+use crate::few::Few;
 use crate::note::{DrumKind, Hit, NO_HIT};
 use crate::refusal::Refusal;
 use crate::score::Score;
 use crate::sort::sort_front;
 
 // The first n entries, in order; the others are 0.
-#[derive(Clone, Copy)]
-pub struct KickTimes {
-    pub at: [f32; 98],
-    pub n: usize,
-}
+pub type KickTimes = Few<f32, 98>;
 
 // The times of the kicks among the first n hits, in the hits' order.
 fn heard(hits: [Hit; 98], n: usize) -> KickTimes

@@ -3,6 +3,7 @@ ghost use Rattle.std.specs.Prelude.{◌≡◌};
 ghost use Rattle.composer.specs.Harmony.{Tonal};
 ghost use Rattle.composer.specs.Lead.{lead_of};
 
+use crate::few::Few;
 use crate::harmony::Harmony;
 use crate::lead::melody::melody;
 use crate::lead::played::played;
@@ -10,7 +11,7 @@ use crate::lead::rhythm::rhythm_of;
 use crate::lead::scale::pool_of;
 use crate::note::Note;
 use crate::style::{Style, lead_style};
-use streams::stream::NoiseStream;
+use streams::stream::{Draw, NoiseStream};
 
 pub mod answer;
 pub mod beats;
@@ -27,13 +28,8 @@ pub mod scale;
 pub mod statement;
 pub mod tones;
 
-// The first `count` notes, in the order drawn, and the stream after their draws.
-#[derive(Clone, Copy)]
-pub struct LeadLane {
-    pub notes: [Note; 56],
-    pub count: usize,
-    pub stream: NoiseStream,
-}
+// The notes, in the order drawn, and the stream after their draws; the others are zero.
+pub type LeadLane = Draw<Few<Note, 56>>;
 
 // The rhythm is drawn, then the melody over it, then how each note is played.
 pub(crate) fn lead(s: NoiseStream, h: Harmony, style: Style, beat_s: f32) -> LeadLane

@@ -6,6 +6,7 @@ pub mod bass;
 pub mod chord;
 pub mod compose;
 pub mod drums;
+pub mod few;
 pub mod form;
 pub mod harmony;
 pub mod keys;

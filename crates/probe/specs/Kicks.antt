@@ -5,12 +5,11 @@ use Rattle.std.specs.Float.{nan, binary32}
 use Rattle.std.specs.Float.Ieee.{to_bits, of_bits}
 use Rattle.laws.specs.Lists.{list_to}
 use Rattle.composer.specs.Compose.{compose_of}
-use Rattle.composer.specs.Kicks.{kick_times}
+use Rattle.composer.specs.Kicks.{KickTimes, kick_times}
 use Rattle.composer.specs.Note.{zero32}
 use Rattle.composer.specs.declared.note.DrumKind.{DrumKind}
 use Rattle.composer.specs.declared.note.Hit.{Hit}
 use Rattle.composer.specs.declared.score.Score.{Score}
-use Rattle.composer.specs.declared.kicks.KickTimes.{KickTimes}
 use Rattle.composer.specs.declared.refusal.Refusal.{Refusal}
 use Rattle.probe.specs.Forms.{outcome_number_of}
 use Rattle.probe.specs.Scores.{told_of}

@@ -10,13 +10,11 @@ use Rattle.streams.specs.declared.stream.NoiseStream.{NoiseStream}
 use Rattle.streams.specs.declared.stream.Draw.{Draw}
 use Rattle.composer.specs.Harmony.{Tonal}
 use Rattle.composer.specs.Bass.{part_of, bars_played}
-use Rattle.composer.specs.Bass.Rhythm.{Rising, past_steps, bass_rhythms_of}
-use Rattle.composer.specs.Bass.Line.{bar_played, Playable}
+use Rattle.composer.specs.Bass.Rhythm.{Steps, Rising, past_steps, bass_rhythms_of}
+use Rattle.composer.specs.Bass.Line.{BassLane, bar_played, Playable}
 use Rattle.composer.specs.declared.chord.Chord.{Chord}
 use Rattle.composer.specs.declared.harmony.Harmony.{Harmony}
 use Rattle.composer.specs.declared.style.BassStyle.{BassStyle}
-use Rattle.composer.specs.declared.bass.BassLane.{BassLane}
-use Rattle.composer.specs.declared.bass.rhythm.Steps.{Steps}
 use Rattle.composer.proofs.bass.RhythmLaws.{rhythms_rising}
 use Rattle.composer.proofs.bass.LineLaws.{bar_count}
 
@@ -37,7 +35,7 @@ module _ (h : Harmony) (tonal : Tonal h) where
         }
 
     module _ (style : BassStyle) (beatS : Float) (l : BassLane) where
-      pub bars_count : (b : ℕ) → b ≤ 8 → (bars_played h.bars rs style beatS l b).count ≤ l.count + 13 * b
+      pub bars_count : (b : ℕ) → b ≤ 8 → (bars_played h.bars rs style beatS l b).value.n ≤ l.value.n + 13 * b
       unfolding bars_played
       bars_count zero k = omega arith
       bars_count (suc b) k =
@@ -46,8 +44,8 @@ module _ (h : Harmony) (tonal : Tonal h) where
           omega (arith, bars_count b (omega arith), bar_count before p style beatS p.steps.n, (part_playable b (omega arith)).steps.few)
 
       -- what playing bar b asks
-      pub turn_asks : (b : ℕ) → b < 8 → l.count ≡ 0
-          → Playable (part_of h.bars rs b) × ((bars_played h.bars rs style beatS l b).count + (part_of h.bars rs b).steps.n ≤ 104)
+      pub turn_asks : (b : ℕ) → b < 8 → l.value.n ≡ 0
+          → Playable (part_of h.bars rs b) × ((bars_played h.bars rs style beatS l b).value.n + (part_of h.bars rs b).steps.n ≤ 104)
       turn_asks b k e =
           let p = part_playable b k in
           (p, omega (arith, bars_count b (omega arith), p.steps.few))

@@ -23,8 +23,8 @@ use Rattle.streams.specs.Draw.{chance_of}
 use Rattle.streams.specs.declared.stream.NoiseStream.{NoiseStream}
 use Rattle.streams.specs.declared.stream.Draw.{Draw}
 use Rattle.composer.specs.Bass.{part_of, bars_played, no_bass, bass_of}
-use Rattle.composer.specs.Bass.Line.{bass_lag, pickup_lag, pickup_velocity, bass_gate, step_s_of, loop_s_of, struck_of, root_note_of, pickup_note_of, later_velocity, later_note_of, pickup_drawn_of, note_drawn_of, gap_of, onset_of, held_of, played_note_of, play_of, bar_played, Playable}
-use Rattle.composer.specs.Bass.Rhythm.{step_p, first_beat_sum, root_from, root_step_of, more_steps, one_step_of, steps_to, root_alone, bass_rhythm_of, no_steps, past_steps, one_rhythm_of, rhythms_to, bass_rhythms_of, Rising}
+use Rattle.composer.specs.Bass.Line.{BassLane, bass_lag, pickup_lag, pickup_velocity, bass_gate, step_s_of, loop_s_of, struck_of, root_note_of, pickup_note_of, later_velocity, later_note_of, pickup_drawn_of, note_drawn_of, gap_of, onset_of, held_of, played_note_of, play_of, bar_played, Playable}
+use Rattle.composer.specs.Bass.Rhythm.{Steps, step_p, first_beat_sum, root_from, root_step_of, more_steps, one_step_of, steps_to, root_alone, bass_rhythm_of, no_steps, past_steps, one_rhythm_of, rhythms_to, bass_rhythms_of, Rising}
 use Rattle.composer.specs.Compose.{beat_s_of}
 use Rattle.composer.specs.Harmony.{Tonal}
 use Rattle.composer.specs.Note.{zero32, past_note}
@@ -40,8 +40,6 @@ use Rattle.composer.specs.declared.spread.Spread.{Spread}
 use Rattle.composer.specs.declared.style.Style.{Style}
 use Rattle.composer.specs.declared.style.Style.TheVariants.{Hiphop, Sleep}
 use Rattle.composer.specs.declared.style.BassStyle.{BassStyle}
-use Rattle.composer.specs.declared.bass.BassLane.{BassLane}
-use Rattle.composer.specs.declared.bass.rhythm.Steps.{Steps}
 use Rattle.composer.specs.declared.bass.line.BarPart.{BarPart}
 use Rattle.composer.specs.declared.bass.line.Strike.{Strike}
 use Rattle.composer.proofs.RangeLaws.{between_in, stays, draw_in, after_in, draw_fits, after_fits, quickest, slowest, beat_in, bar_in_lem, start_in}
@@ -269,13 +267,13 @@ module _ (n : ℕ) (tempo : (70 ≤ n) × (n ≤ 82)) where
             spare = refl;
           }
 
-      bar_plain : (l : BassLane) (i : ℕ) → i ≤ p.steps.n → Filled past_note BassNote l.notes l.count
-          → Filled past_note BassNote (bar_played l p style beat_s i).notes (bar_played l p style beat_s i).count
+      bar_plain : (l : BassLane) (i : ℕ) → i ≤ p.steps.n → Filled past_note BassNote l.value.at l.value.n
+          → Filled past_note BassNote (bar_played l p style beat_s i).value.at (bar_played l p style beat_s i).value.n
       unfolding bar_played play_of played_note_of
       bar_plain l zero h f = f
       bar_plain l (suc i) h f =
           let before = bar_played l p style beat_s i in
-          filled_push past_note BassNote before.notes before.count _ (bar_plain l i (omega arith) f) (note_plain before.stream i (omega arith) _, refl)
+          filled_push past_note BassNote before.value.at before.value.n _ (bar_plain l i (omega arith) f) (note_plain before.stream i (omega arith) _, refl)
 
   module _ (h : Harmony) (tonal : Tonal h) (rs : List Steps) (rising : (b : ℕ) → b < 8 → Rising (get_or rs b past_steps) 16) (opens : (b : ℕ) → Early (get_or rs b past_steps))
       (style : BassStyle) (loud : T (stays style.velocity softest loudest)) (later : T (stays (later_velocity style.velocity) softest loudest)) (s : NoiseStream) where
@@ -290,9 +288,9 @@ module _ (n : ℕ) (tempo : (70 ≤ n) × (n ≤ 82)) where
     unfolding part_of
     in_loop b k = omega arith
 
-    bars_plain : (b : ℕ) → b ≤ 8 → Filled past_note BassNote (lane_to b).notes (lane_to b).count
+    bars_plain : (b : ℕ) → b ≤ 8 → Filled past_note BassNote (lane_to b).value.at (lane_to b).value.n
     unfolding bars_played
-    bars_plain zero k = filled_none past_note BassNote (no_bass s).notes
+    bars_plain zero k = filled_none past_note BassNote (no_bass s).value.at
     bars_plain (suc b) k =
         let p = part_of h.bars rs b in
         let here-b : b < 8 = omega arith in
@@ -312,15 +310,15 @@ module _ (s : NoiseStream) (h : Harmony) (tonal : Tonal h) (style : Style) (n : 
   abbrev drawn : BassLane
   drawn = bass_of s h style (beat_s_of (f32_of n))
 
-  filled : Filled past_note BassNote drawn.notes drawn.count
+  filled : Filled past_note BassNote drawn.value.at drawn.value.n
   unfolding bass_of
   filled = bars_plain n tempo h tonal (bass_rhythms_of s).value (rhythms_rising s) (rhythms_early s) (bass_style_of style) (loud_of style) (later_of style) (bass_rhythms_of s).stream 8 (omega arith)
 
-  bass_sound : (i : ℕ) → i < drawn.count → BassNote (get_or drawn.notes i past_note)
+  bass_sound : (i : ℕ) → i < drawn.value.n → BassNote (get_or drawn.value.at i past_note)
   bass_sound i k = let laid = bass_laid s h style (beat_s_of (f32_of n)) tonal in filled i k (omega (arith, laid.size, laid.few))
 
-  pub bass_plain : (i : ℕ) → i < drawn.count → PlainNote (get_or drawn.notes i past_note)
+  pub bass_plain : (i : ℕ) → i < drawn.value.n → PlainNote (get_or drawn.value.at i past_note)
   bass_plain i k = (bass_sound i k).0
 
-  pub bass_back : (i : ℕ) → i < drawn.count → Backs (get_or drawn.notes i past_note)
+  pub bass_back : (i : ℕ) → i < drawn.value.n → Backs (get_or drawn.value.at i past_note)
   bass_back i k = (bass_sound i k).1

@@ -15,8 +15,7 @@ use Rattle.laws.proofs.Bools.{either}
 use Rattle.streams.specs.Draw.{chance_of}
 use Rattle.streams.specs.declared.stream.NoiseStream.{NoiseStream}
 use Rattle.streams.specs.declared.stream.Draw.{Draw}
-use Rattle.composer.specs.Bass.Rhythm.{step_p, first_beat_sum, root_from, root_step_of, more_steps, one_step_of, steps_to, root_alone, bass_rhythm_of, no_steps, past_steps, one_rhythm_of, rhythms_to, bass_rhythms_of, Rising}
-use Rattle.composer.specs.declared.bass.rhythm.Steps.{Steps}
+use Rattle.composer.specs.Bass.Rhythm.{Steps, step_p, first_beat_sum, root_from, root_step_of, more_steps, one_step_of, steps_to, root_alone, bass_rhythm_of, no_steps, past_steps, one_rhythm_of, rhythms_to, bass_rhythms_of, Rising}
 
 -- ---- the root
 module _ (s : NoiseStream) (left : Float) where

@@ -15,10 +15,9 @@ use Rattle.streams.proofs.StreamLaws.{after_on}
 use Rattle.streams.proofs.DrawLaws.{chance_advances}
 use Rattle.composer.specs.Spread.{draw_of, jitter_of}
 use Rattle.composer.specs.Drums.{wobble, bar_of, lay_bar_of, bars_to}
-use Rattle.composer.specs.Drums.Kit.{ends_statement, drawn_on, hit_accent, kick_jitter, kick_hit_of, push_kick_of, lay_kicks_of, snare_jitter, snare_hit_of, push_snare_of, snares_to, lay_snares_of, hat_jitter, hat_hit_of, push_hat_of, lay_hat_of, hats_to}
+use Rattle.composer.specs.Drums.Kit.{DrumLane, ends_statement, drawn_on, hit_accent, kick_jitter, kick_hit_of, push_kick_of, lay_kicks_of, snare_jitter, snare_hit_of, push_snare_of, snares_to, lay_snares_of, hat_jitter, hat_hit_of, push_hat_of, lay_hat_of, hats_to}
 use Rattle.composer.specs.declared.spread.Spread.{Spread}
 use Rattle.composer.specs.declared.spread.Jitter.{Jitter}
-use Rattle.composer.specs.declared.drums.DrumLane.{DrumLane}
 use Rattle.composer.specs.declared.drums.grooves.Kick.{Kick}
 use Rattle.composer.specs.declared.drums.grooves.Groove.{Groove}
 use Rattle.composer.specs.declared.drums.kit.Bar.{Bar}
@@ -26,7 +25,7 @@ use Rattle.composer.proofs.SpreadLaws.{draw_advances, jitter_advances}
 
 -- from s on the lane has made n draws, and two for each hit
 abbrev pub Made : NoiseStream → ℕ → DrumLane → Type 0
-Made s n l = l.stream ≡ after s (n + 2 * l.count)
+Made s n l = l.stream ≡ after s (n + 2 * l.value.n)
 
 -- the draws of the first e eighths that add no hit of themselves
 abbrev pub chances_to : Bool → ℕ → ℕ
@@ -35,10 +34,10 @@ chances_to offOnly (suc e) = chances_to offOnly e + cond (offOnly && eqb (e % 2)
 
 module _ (s : NoiseStream) where
   -- a jitter, then an accent
-  hit_made : (n : ℕ) (l : DrumLane) (j : Jitter) (p : Spread) → Made s n l → (draw_of p (jitter_of j l.stream).stream).stream ≡ after s (n + 2 * (l.count + 1))
+  hit_made : (n : ℕ) (l : DrumLane) (j : Jitter) (p : Spread) → Made s n l → (draw_of p (jitter_of j l.stream).stream).stream ≡ after s (n + 2 * (l.value.n + 1))
   hit_made n l j p m =
-      let a = jitter_advances l.stream j ∙ after_on s l.stream (n + 2 * l.count) (n + 2 * l.count + 1) m refl in
-      draw_advances (jitter_of j l.stream).stream p ∙ after_on s (jitter_of j l.stream).stream (n + 2 * l.count + 1) (n + 2 * (l.count + 1)) a (omega arith)
+      let a = jitter_advances l.stream j ∙ after_on s l.stream (n + 2 * l.value.n) (n + 2 * l.value.n + 1) m refl in
+      draw_advances (jitter_of j l.stream).stream p ∙ after_on s (jitter_of j l.stream).stream (n + 2 * l.value.n + 1) (n + 2 * (l.value.n + 1)) a (omega arith)
 
   kick_made : (n : ℕ) (l : DrumLane) (bar : Bar) (dragS : Float) (k : Kick) → Made s n l → Made s n (push_kick_of l bar dragS k)
   unfolding push_kick_of kick_hit_of
@@ -65,10 +64,10 @@ module _ (s : NoiseStream) where
     snares_made n l bar (suc i) m = snare_made n (snares_to l g bar i) bar _ g.snare_gain (snares_made n l bar i m)
 
     made_as : (n m : ℕ) (l : DrumLane) → n ≡ m → Made s n l → Made s m l
-    made_as n m l e p = p ∙ ap (λ (k : ℕ). after s (k + 2 * l.count)) e
+    made_as n m l e p = p ∙ ap (λ (k : ℕ). after s (k + 2 * l.value.n)) e
 
     chance_made : (n : ℕ) (l : DrumLane) → Made s n l → Made s (n + 1) (drawn_on l (chance_of l.stream g.hats.skip_p).stream)
-    chance_made n l m = chance_advances l.stream g.hats.skip_p ∙ after_on s l.stream (n + 2 * l.count) (n + 1 + 2 * l.count) m (omega arith)
+    chance_made n l m = chance_advances l.stream g.hats.skip_p ∙ after_on s l.stream (n + 2 * l.value.n) (n + 1 + 2 * l.value.n) m (omega arith)
 
     lay_hat_made : (n : ℕ) (l : DrumLane) (bar : Bar) (e : ℕ) → Made s n l → Made s (n + cond (g.hats.off_eighths_only && eqb (e % 2) 0) 0 1) (lay_hat_of l g bar e)
     unfolding lay_hat_of
@@ -98,7 +97,7 @@ module _ (s : NoiseStream) where
         let w = draw_of wobble l.stream in
         let bar = bar_of k beatS w.value in
         let a = drawn_on l w.stream in
-        let d = draw_advances l.stream wobble ∙ after_on s l.stream (n + 2 * l.count) (n + 1 + 2 * l.count) m (omega arith) in
+        let d = draw_advances l.stream wobble ∙ after_on s l.stream (n + 2 * l.value.n) (n + 1 + 2 * l.value.n) m (omega arith) in
         hats_made (n + 1) (lay_snares_of (lay_kicks_of a g bar) g bar) bar 8 (snares_made (n + 1) (lay_kicks_of a g bar) bar g.snare_count (kicks_made (n + 1) a bar d))
 
     -- k bars, each with its wobble and its eighths

@@ -26,12 +26,11 @@ use Rattle.streams.proofs.DrawLaws.{pick_lt}
 use Rattle.composer.specs.Compose.{beat_s_of}
 use Rattle.composer.specs.Drums.{wobble, bar_of, lay_bar_of, bars_to, no_hits, lay_groove_of, drums_of}
 use Rattle.composer.specs.Drums.Grooves.{ghost_kick, hiphop_groove_of, sleep_groove}
-use Rattle.composer.specs.Drums.Kit.{ends_statement, drawn_on, struck_of, kick_beat_of, kick_hit_of, push_kick_of, lay_kicks_of, snare_hit_of, push_snare_of, snares_to, lay_snares_of, hat_hit_of, push_hat_of, lay_hat_of, hats_to}
+use Rattle.composer.specs.Drums.Kit.{DrumLane, ends_statement, drawn_on, struck_of, kick_beat_of, kick_hit_of, push_kick_of, lay_kicks_of, snare_hit_of, push_snare_of, snares_to, lay_snares_of, hat_hit_of, push_hat_of, lay_hat_of, hats_to}
 use Rattle.composer.specs.Early.{is_early}
 use Rattle.composer.specs.Note.{zero32, past_hit}
 use Rattle.composer.specs.Spread.{draw_of}
 use Rattle.composer.specs.Timing.{bar_start_of}
-use Rattle.composer.specs.declared.drums.DrumLane.{DrumLane}
 use Rattle.composer.specs.declared.drums.grooves.Groove.{Groove}
 use Rattle.composer.specs.declared.drums.grooves.Kick.{Kick}
 use Rattle.composer.specs.declared.drums.kit.Bar.{Bar}
@@ -53,10 +52,10 @@ module _ (n : ℕ) (tempo : (70 ≤ n) × (n ≤ 82)) (v : ℕ) where
   test h = eqb h.bar v && is_early beat_s h
 
   abbrev earlies : DrumLane → ℕ
-  earlies l = count test (take l.count l.hits)
+  earlies l = count test (take l.value.n l.value.at)
 
   struck_most : (l : DrumLane) (d : Draw Hit) → earlies (struck_of l d) ≤ earlies l + cond (test d.value) 1 0
-  struck_most l d = rw (add-one l.count) (count_push test d.value l.hits l.count)
+  struck_most l d = rw (add-one l.value.n) (count_push test d.value l.value.at l.value.n)
 
   struck_late : (l : DrumLane) (d : Draw Hit) → is_early beat_s d.value ≡ false → earlies (struck_of l d) ≤ earlies l
   struck_late l d e =
@@ -169,11 +168,11 @@ module _ (n : ℕ) (tempo : (70 ≤ n) × (n ≤ 82)) (s : NoiseStream) (style :
 
   -- the hits of a bar
   abbrev drawn : ℕ → List Hit
-  drawn b = filter_of (λ h. eqb h.bar b) (take lane.count lane.hits)
+  drawn b = filter_of (λ h. eqb h.bar b) (take lane.value.n lane.value.at)
 
   pub drums_early : (b : ℕ) → length (filter_of (is_early beat) (drawn b)) ≤ 1
   drums_early b =
-      let hs = take lane.count lane.hits in
+      let hs = take lane.value.n lane.value.at in
       omega (
         arith,
         ap length (filter_both (λ h. eqb h.bar b) (is_early beat) hs),
@@ -181,9 +180,9 @@ module _ (n : ℕ) (tempo : (70 ≤ n) × (n ≤ 82)) (s : NoiseStream) (style :
         drums_most n tempo b s style,
       )
 
-  not_early : (i : ℕ) → i < lane.count → eqb (get_or lane.hits i past_hit).bar 0 ≡ true → is_early beat (get_or lane.hits i past_hit) ≡ false
+  not_early : (i : ℕ) → i < lane.value.n → eqb (get_or lane.value.at i past_hit).bar 0 ≡ true → is_early beat (get_or lane.value.at i past_hit) ≡ false
   not_early i h e =
-      let hit = get_or lane.hits i past_hit in
+      let hit = get_or lane.value.at i past_hit in
       let start = zero_start beat (beat_in n tempo) in
       let at = (drums_plain beat (beat_in n tempo) s style i h).at in
       rw (eqb-true hit.bar 0 e)
@@ -192,11 +191,11 @@ module _ (n : ℕ) (tempo : (70 ≤ n) × (n ≤ 82)) (s : NoiseStream) (style :
   pub drums_first : filter_of (is_early beat) (drawn 0) ≡ []
   drums_first =
       filter_none (is_early beat) (drawn 0)
-      (all_filter (λ h. eqb h.bar 0) (λ h. is_early beat h ≡ false) (take lane.count lane.hits)
-      (all_by (λ h. eqb h.bar 0 ≡ true → is_early beat h ≡ false) past_hit lane.hits lane.count not_early))
+      (all_filter (λ h. eqb h.bar 0) (λ h. is_early beat h ≡ false) (take lane.value.n lane.value.at)
+      (all_by (λ h. eqb h.bar 0 ≡ true → is_early beat h ≡ false) past_hit lane.value.at lane.value.n not_early))
 
   -- every bar has two hits at least, and one at most is early
   pub drums_late : (b : ℕ) → b < 8 → 1 ≤ length (filter_of (λ h. not (is_early beat h)) (drawn b))
   drums_late b h =
-      let hs = take lane.count lane.hits in
+      let hs = take lane.value.n lane.value.at in
       omega (arith, filter_parts (is_early beat) (drawn b), drums_early b, count_filter (λ h. eqb h.bar b) hs, drums_many s style beat b h)

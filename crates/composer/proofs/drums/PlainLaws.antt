@@ -19,7 +19,7 @@ use Rattle.streams.specs.declared.stream.NoiseStream.{NoiseStream}
 use Rattle.streams.proofs.DrawLaws.{pick_lt}
 use Rattle.composer.specs.Drums.{wobble, bar_of, lay_bar_of, bars_to, no_hits, lay_groove_of, drums_of}
 use Rattle.composer.specs.Drums.Grooves.{ghost_kick, hiphop_groove_of, sleep_groove}
-use Rattle.composer.specs.Drums.Kit.{bar_at, ends_statement, drawn_on, hit_accent, kick_jitter, kick_slot_of, kick_beat_of, kick_hit_of, push_kick_of, lay_kicks_of, snare_drag_s, snare_jitter, snare_hit_of, push_snare_of, snares_to, lay_snares_of, hat_jitter, hat_slot_of, hat_hit_of, push_hat_of, lay_hat_of, hats_to}
+use Rattle.composer.specs.Drums.Kit.{DrumLane, bar_at, ends_statement, drawn_on, hit_accent, kick_jitter, kick_slot_of, kick_beat_of, kick_hit_of, push_kick_of, lay_kicks_of, snare_drag_s, snare_jitter, snare_hit_of, push_snare_of, snares_to, lay_snares_of, hat_jitter, hat_slot_of, hat_hit_of, push_hat_of, lay_hat_of, hats_to}
 use Rattle.composer.specs.Note.{zero32, past_hit}
 use Rattle.composer.specs.Plain.{latest, softest, loudest, Fits32, PlainHit}
 use Rattle.composer.specs.Spread.{draw_of, jitter_of}
@@ -27,7 +27,6 @@ use Rattle.composer.specs.Timing.{swing_delay_of, held_at_zero}
 use Rattle.composer.specs.declared.spread.Jitter.{Jitter}
 use Rattle.composer.specs.declared.style.Style.{Style}
 use Rattle.composer.specs.declared.style.Style.TheVariants.{Hiphop, Sleep}
-use Rattle.composer.specs.declared.drums.DrumLane.{DrumLane}
 use Rattle.composer.specs.declared.drums.grooves.Kick.{Kick}
 use Rattle.composer.specs.declared.drums.grooves.Groove.{Groove}
 use Rattle.composer.specs.declared.drums.kit.Bar.{Bar}
@@ -76,7 +75,7 @@ gain_in s gain w g i =
 
 -- ---- the lane
 abbrev Full : DrumLane → Type 0
-Full l = Filled past_hit PlainHit l.hits l.count
+Full l = Filled past_hit PlainHit l.value.at l.value.n
 
 module _ (beatS : Float) (beat : In quickest slowest beatS) (number : ℕ) (in_loop : number ≤ 7) (w : Float) (wobbles : In least_wobble most_wobble w) where
   abbrev bar : Bar
@@ -109,7 +108,7 @@ module _ (beatS : Float) (beat : In quickest slowest beatS) (number : ℕ) (in_l
   kick_full : (l : DrumLane) (dragS : Float) (k : Kick) → In least_drag most_drag dragS → T (fair_kick k) → Full l → Full (push_kick_of l bar dragS k)
   unfolding push_kick_of kick_hit_of of_bits of_int
   kick_full l dragS k d t f =
-      filled_push past_hit PlainHit l.hits l.count _ f
+      filled_push past_hit PlainHit l.value.at l.value.n _ f
       (record {
         at = hit_at_lem l.stream kick_jitter _ (kick_slot dragS (kick_beat_of k number) d (kick_beat k t number)) tt tt (unfold add in tt) (unfold add mul in tt) (unfold add mul in tt) (unfold add mul le in tt);
         gain = gain_in (jitter_of kick_jitter l.stream).stream k.gain w (kick_gain k t) wobbles;
@@ -126,7 +125,7 @@ module _ (beatS : Float) (beat : In quickest slowest beatS) (number : ℕ) (in_l
   snare_full : (l : DrumLane) (x gain : Float) → In (f32_of 1) last_beat x → In least_gain most_gain gain → Full l → Full (push_snare_of l bar x gain)
   unfolding push_snare_of snare_hit_of of_bits of_int
   snare_full l x gain i g f =
-      filled_push past_hit PlainHit l.hits l.count _ f
+      filled_push past_hit PlainHit l.value.at l.value.n _ f
       (record {
         at = hit_at_lem l.stream snare_jitter _ (snare_slot x i) tt tt (unfold add in tt) (unfold add mul in tt) (unfold add mul in tt) (unfold add mul le in tt);
         gain = gain_in (jitter_of snare_jitter l.stream).stream gain w g wobbles;
@@ -152,7 +151,7 @@ module _ (beatS : Float) (beat : In quickest slowest beatS) (number : ℕ) (in_l
     hat_full : (l : DrumLane) (e : ℕ) → e ≤ 7 → Full l → Full (push_hat_of l g bar e)
     unfolding push_hat_of hat_hit_of of_bits of_int
     hat_full l e h f =
-        filled_push past_hit PlainHit l.hits l.count _ f
+        filled_push past_hit PlainHit l.value.at l.value.n _ f
         (record {
           at = hit_at_lem l.stream hat_jitter _ (hat_slot g.hats.swing (swing_fair g isFair) e h) tt tt (unfold add in tt) (unfold add mul in tt) (unfold add mul in tt) (unfold add mul le in tt);
           gain = hat_gain _ (draw_in g.hats.velocity least_hat most_hat (velocity_fair g isFair) (jitter_of hat_jitter l.stream).stream);
@@ -208,8 +207,8 @@ module _ (beatS : Float) (beat : In quickest slowest beatS) where
   unfolding drums_of lay_groove_of
   filled s Hiphop =
       let p = pick_of s 4 in
-      bars_full (hiphop_groove_of p.value) (hiphop_fair p.value (pick_lt s 4 (omega arith))) (no_hits p.stream) 8 (omega arith) (filled_none past_hit PlainHit (no_hits p.stream).hits)
-  filled s Sleep = bars_full sleep_groove sleep_fair (no_hits s) 8 (omega arith) (filled_none past_hit PlainHit (no_hits s).hits)
+      bars_full (hiphop_groove_of p.value) (hiphop_fair p.value (pick_lt s 4 (omega arith))) (no_hits p.stream) 8 (omega arith) (filled_none past_hit PlainHit (no_hits p.stream).value.at)
+  filled s Sleep = bars_full sleep_groove sleep_fair (no_hits s) 8 (omega arith) (filled_none past_hit PlainHit (no_hits s).value.at)
 
-  pub drums_plain : (s : NoiseStream) (style : Style) (i : ℕ) → i < (drums_of s style beatS).count → PlainHit (get_or (drums_of s style beatS).hits i past_hit)
+  pub drums_plain : (s : NoiseStream) (style : Style) (i : ℕ) → i < (drums_of s style beatS).value.n → PlainHit (get_or (drums_of s style beatS).value.at i past_hit)
   drums_plain s style i h = let laid = drums_laid s style beatS in filled s style i h (omega (arith, laid.size, laid.few))

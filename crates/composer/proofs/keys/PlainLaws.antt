@@ -19,7 +19,7 @@ use Rattle.streams.specs.Draw.{chance_of, pick_of}
 use Rattle.streams.specs.declared.stream.NoiseStream.{NoiseStream}
 use Rattle.streams.proofs.DrawLaws.{pick_lt}
 use Rattle.composer.specs.Chord.{root_class_of, past_chord}
-use Rattle.composer.specs.Keys.{shell_of, upper_of, keys_lag, roll, rolled_softer, ninth_p, density_draw_of, empty_of, moved_of, push_of, grid_at, shell_stroke_of, single_stroke_of, stroke_by, stroke_of, eighth_of, bar_to, bar_of, bars_to, keys_of}
+use Rattle.composer.specs.Keys.{KeysLane, shell_of, upper_of, keys_lag, roll, rolled_softer, ninth_p, density_draw_of, empty_of, moved_of, push_of, grid_at, shell_stroke_of, single_stroke_of, stroke_by, stroke_of, eighth_of, bar_to, bar_of, bars_to, keys_of}
 use Rattle.composer.specs.Harmony.{Tonal}
 use Rattle.composer.specs.Note.{zero32, past_note}
 use Rattle.composer.specs.Plain.{latest, softest, loudest, shortest, longest, Fits32, PlainNote}
@@ -35,7 +35,6 @@ use Rattle.composer.specs.declared.style.Comp.{Comp}
 use Rattle.composer.specs.declared.style.KeysStyle.{KeysStyle}
 use Rattle.composer.specs.declared.style.Style.{Style}
 use Rattle.composer.specs.declared.style.Style.TheVariants.{Hiphop, Sleep}
-use Rattle.composer.specs.declared.keys.KeysLane.{KeysLane}
 use Rattle.composer.proofs.RangeLaws.{between, between_in, stays, draw_in, after_in, draw_fits, after_fits, quickest, slowest, eighths_in, swing_in}
 use Rattle.composer.proofs.keys.NoteLaws.{keys_laid}
 use Rattle.composer.proofs.keys.ShellLaws.{Played, tonal_played}
@@ -45,7 +44,7 @@ abbrev KeysNote : Note → Type 0
 KeysNote x = PlainNote x × Within 48 73 x.midi × Backs x
 
 abbrev Full : KeysLane → Type 0
-Full l = Filled past_note KeysNote l.notes l.count
+Full l = Filled past_note KeysNote l.value.at l.value.n
 
 -- ---- what a style keeps to: velocities from 0.35 on, and a fit duration
 abbrev least : Float
@@ -94,7 +93,7 @@ module _ (k : KeysStyle) (isFair : T (fair k)) (durFits : Fits32 k.dur) where
       (unfold add mul le in tt)
 
   push_full : (l : KeysLane) (x : Note) → KeysNote x → Full l → Full (push_of l x)
-  push_full l x p f = filled_push past_note KeysNote l.notes l.count x f p
+  push_full l x p f = filled_push past_note KeysNote l.value.at l.value.n x f p
 
   module _ (l : KeysLane) (c : Chord) (played : Played c) (bar : ℕ) (at : Float) (atFits : Fits32 at) (i : In zero32 last_stroke at) (f : Full l) where
     shell_full : Full (shell_stroke_of l c k bar at)
@@ -197,16 +196,16 @@ module _ (s : NoiseStream) (h : Harmony) (tonal : Tonal h) (style : Style) (beat
   filled =
       let k = keys_style_of style in
       let d = density_draw_of k.density s in
-      bars_full k (style_fair style) (style_dur style) beatS beat h.bars (tonal_played h tonal) d.value (empty_of d.stream) 8 (omega arith) (filled_none past_note KeysNote (empty_of d.stream).notes)
+      bars_full k (style_fair style) (style_dur style) beatS beat h.bars (tonal_played h tonal) d.value (empty_of d.stream) 8 (omega arith) (filled_none past_note KeysNote (empty_of d.stream).value.at)
 
-  note_at_lem : (i : ℕ) → i < (keys_of s h style beatS).count → KeysNote (get_or (keys_of s h style beatS).notes i past_note)
+  note_at_lem : (i : ℕ) → i < (keys_of s h style beatS).value.n → KeysNote (get_or (keys_of s h style beatS).value.at i past_note)
   note_at_lem i k = let laid = keys_laid s h style beatS in filled i k (omega (arith, laid.size, laid.few))
 
-  pub keys_plain : (i : ℕ) → i < (keys_of s h style beatS).count → PlainNote (get_or (keys_of s h style beatS).notes i past_note)
+  pub keys_plain : (i : ℕ) → i < (keys_of s h style beatS).value.n → PlainNote (get_or (keys_of s h style beatS).value.at i past_note)
   keys_plain i k = (note_at_lem i k).0
 
-  pub keys_within : (i : ℕ) → i < (keys_of s h style beatS).count → Within 48 73 (get_or (keys_of s h style beatS).notes i past_note).midi
+  pub keys_within : (i : ℕ) → i < (keys_of s h style beatS).value.n → Within 48 73 (get_or (keys_of s h style beatS).value.at i past_note).midi
   keys_within i k = (note_at_lem i k).1
 
-  pub keys_back : (i : ℕ) → i < (keys_of s h style beatS).count → Backs (get_or (keys_of s h style beatS).notes i past_note)
+  pub keys_back : (i : ℕ) → i < (keys_of s h style beatS).value.n → Backs (get_or (keys_of s h style beatS).value.at i past_note)
   keys_back i k = (note_at_lem i k).2

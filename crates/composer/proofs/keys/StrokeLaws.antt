@@ -10,10 +10,9 @@ use Rattle.streams.specs.Draw.{chance_of}
 use Rattle.streams.specs.declared.stream.NoiseStream.{NoiseStream}
 use Rattle.streams.specs.declared.stream.Draw.{Draw}
 use Rattle.composer.specs.Chord.{root_class_of}
-use Rattle.composer.specs.Keys.{keys_lag, shell_of, moved_of, grid_at, dyad_of, tone_of, shell_stroke_of, single_stroke_of, stroke_by, stroke_of, eighth_of}
+use Rattle.composer.specs.Keys.{KeysLane, keys_lag, shell_of, moved_of, grid_at, dyad_of, tone_of, shell_stroke_of, single_stroke_of, stroke_by, stroke_of, eighth_of}
 use Rattle.composer.specs.Spread.{draw_of}
 use Rattle.composer.specs.declared.chord.Chord.{Chord}
-use Rattle.composer.specs.declared.keys.KeysLane.{KeysLane}
 use Rattle.composer.specs.declared.keys.Shell.{Shell}
 use Rattle.composer.specs.declared.note.Note.{Note}
 use Rattle.composer.specs.declared.style.Comp.{Comp}
@@ -22,7 +21,7 @@ use Rattle.composer.specs.declared.keys.Dyad.{Dyad}
 
 -- the loop's notes, their count and its stream as a lane
 abbrev pub lane_of : List Note → ℕ → NoiseStream → KeysLane
-lane_of notes count stream = record { notes = notes; count = count; stream = stream }
+lane_of notes count stream = record { value = record { at = notes; n = count }; stream = stream }
 
 -- the lane after the lag, and when the stroke falls
 abbrev pub lagged : KeysLane → KeysLane
@@ -31,7 +30,7 @@ lagged l = moved_of l (draw_of keys_lag l.stream).stream
 abbrev pub struck_at : KeysLane → Float → Float
 struck_at l grid = add binary32 grid (draw_of keys_lag l.stream).value
 
-stroke_by_count : (comp : Comp) (l : KeysLane) (c : Chord) (k : KeysStyle) (bar : ℕ) (at : Float) → (stroke_by comp l c k bar at).count ≤ l.count + 2
+stroke_by_count : (comp : Comp) (l : KeysLane) (c : Chord) (k : KeysStyle) (bar : ℕ) (at : Float) → (stroke_by comp l c k bar at).value.n ≤ l.value.n + 2
 unfolding shell_stroke_of single_stroke_of
 stroke_by_count Comp.Shell l c k bar at = omega arith
 stroke_by_count Comp.Single l c k bar at = omega arith
@@ -41,7 +40,7 @@ module _ (l : KeysLane) (c : Chord) (k : KeysStyle) (bar : ℕ) (grid : Float) w
   unfolding stroke_of
   stroke_by_lem comp e = ap (λ (m : Comp). stroke_by m (lagged l) c k bar (struck_at l grid)) e
 
-  pub stroke_count : (stroke_of l c k bar grid).count ≤ l.count + 2
+  pub stroke_count : (stroke_of l c k bar grid).value.n ≤ l.value.n + 2
   unfolding stroke_of
   stroke_count = stroke_by_count k.comp (lagged l) c k bar (struck_at l grid)
 
@@ -60,13 +59,13 @@ module _ (l : KeysLane) (c : Chord) (k : KeysStyle) (density : Float) (bar e : �
     struck comp is = rw (← drew, strikes, lags, on) (sym (stroke_by_lem (moved_of l d.stream) c k bar (grid_at bar e beatS) comp is))
 
     module _ (shell : Shell) (found : shell ≡ shell_of c) (dyad : Draw Dyad) (made : dyad ≡ dyad_of lag.stream shell (root_class_of c) k bar at) where
-      pub eighth_shell : k.comp ≡ Comp.Shell → lane_of (set (set l.notes l.count dyad.value.lower) (l.count + 1) dyad.value.higher) (l.count + 2) dyad.stream ≡ eighth_of l c k density bar e beatS
+      pub eighth_shell : k.comp ≡ Comp.Shell → lane_of (set (set l.value.at l.value.n dyad.value.lower) (l.value.n + 1) dyad.value.higher) (l.value.n + 2) dyad.stream ≡ eighth_of l c k density bar e beatS
       unfolding shell_stroke_of
       eighth_shell is =
-          let two : l.count + 2 ≡ l.count + 1 + 1 = omega arith in
+          let two : l.value.n + 2 ≡ l.value.n + 1 + 1 = omega arith in
           rw (made, found, two) (struck Comp.Shell is)
 
     module _ (tone : Draw Note) (made : tone ≡ tone_of lag.stream c k bar at) where
-      pub eighth_single : k.comp ≡ Comp.Single → lane_of (set l.notes l.count tone.value) (l.count + 1) tone.stream ≡ eighth_of l c k density bar e beatS
+      pub eighth_single : k.comp ≡ Comp.Single → lane_of (set l.value.at l.value.n tone.value) (l.value.n + 1) tone.stream ≡ eighth_of l c k density bar e beatS
       unfolding single_stroke_of
       eighth_single is = rw made (struck Comp.Single is)

@@ -9,13 +9,12 @@ use Rattle.laws.specs.Lanes.{EachAtMost, Laid}
 use Rattle.laws.proofs.Lanes.{Grown, grown_none, grown_push, grown_then, bars_laid, bars_few}
 use Rattle.streams.specs.declared.stream.NoiseStream.{NoiseStream}
 use Rattle.composer.specs.Chord.{past_chord}
-use Rattle.composer.specs.Lead.Beats.{past_beats}
+use Rattle.composer.specs.Lead.Beats.{Beats, past_beats}
 use Rattle.composer.specs.Lead.Ground.{ground_of}
 use Rattle.composer.specs.Lead.Melody.{no_lead, past_lead, sing_of, bar_to, start_of, nothing_sung, bars_to, melody_of}
 use Rattle.composer.specs.Lead.Sound.{Good, Ready}
 use Rattle.composer.specs.declared.chord.Chord.{Chord}
 use Rattle.composer.specs.declared.style.LeadStyle.{LeadStyle}
-use Rattle.composer.specs.declared.lead.beats.Beats.{Beats}
 use Rattle.composer.specs.declared.lead.ground.Ground.{Ground}
 use Rattle.composer.specs.declared.lead.melody.LeadNote.{LeadNote}
 use Rattle.composer.specs.declared.lead.melody.Sung.{Sung}

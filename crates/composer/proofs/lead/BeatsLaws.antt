@@ -13,8 +13,7 @@ use lib.Ieee.{Float, nan}
 use Rattle.laws.specs.Lists.{pad}
 use Rattle.laws.proofs.Lists.{pad_push}
 use Rattle.composer.specs.Note.{zero32}
-use Rattle.composer.specs.Lead.Beats.{past_beats, beats_of, list_of, add_of, without, near_of, more_of, thin_of}
-use Rattle.composer.specs.declared.lead.beats.Beats.{Beats}
+use Rattle.composer.specs.Lead.Beats.{Beats, past_beats, beats_of, list_of, add_of, without, near_of, more_of, thin_of}
 use Rattle.composer.proofs.lead.SettleLaws.{none_near}
 use Rattle.laws.proofs.Written.{Written, rest_is, written_none, written_over, written_more, written_list}
 

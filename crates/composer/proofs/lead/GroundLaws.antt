@@ -15,9 +15,9 @@ use Rattle.laws.proofs.Runs.{every, every_at}
 use Rattle.composer.specs.Chord.{root_class_of}
 use Rattle.composer.specs.Harmony.{pentatonic, colour, class_in, classes_of, chord_in, melody_pcs_of, Tonal}
 use Rattle.composer.specs.Style.{lead_style_of}
-use Rattle.composer.specs.Lead.Beats.{past_beats}
+use Rattle.composer.specs.Lead.Beats.{Beats, past_beats}
 use Rattle.composer.specs.Lead.Scale.{pcs_of, has_of, pool_by, pool_of, fits_of, snap_from, snapped_of}
-use Rattle.composer.specs.Lead.Tones.{in_chord_of, is_sung_of, kept, tones_in, no_class, packed, nearest_of}
+use Rattle.composer.specs.Lead.Tones.{Tones, in_chord_of, is_sung_of, kept, tones_in, no_class, packed, nearest_of}
 use Rattle.composer.specs.Lead.Ground.{ground_of}
 use Rattle.composer.specs.Lead.Melody.{start_of}
 use Rattle.composer.specs.Lead.Sound.{Tuned, Sound, Ready}
@@ -26,8 +26,6 @@ use Rattle.composer.specs.declared.harmony.Harmony.{Harmony}
 use Rattle.composer.specs.declared.style.Style.{Style}
 use Rattle.composer.specs.declared.style.Style.TheVariants.{Hiphop, Sleep}
 use Rattle.composer.specs.declared.style.LeadStyle.{LeadStyle}
-use Rattle.composer.specs.declared.lead.beats.Beats.{Beats}
-use Rattle.composer.specs.declared.lead.tones.Tones.{Tones}
 use Rattle.composer.proofs.lead.FitLaws.{tones_fit}
 use Rattle.composer.proofs.lead.TonesLaws.{tones_few, listed_packed}
 

@@ -65,31 +65,31 @@ module _ (s : NoiseStream) (h : Harmony) (tonal : Tonal h) (style : Style) where
     abbrev m : Sung
     m = sung_of s h style
 
-    same_count : (lead_of s h style beatS).count ≡ m.count
+    same_count : (lead_of s h style beatS).value.n ≡ m.count
     unfolding lead_of
     same_count = played_count m beatS l.dur
 
-    pub keeps : (i : ℕ) → i < (lead_of s h style beatS).count
-        → ((get_or (lead_of s h style beatS).notes i past_note).bar ≡ lead_bar (get_or m.notes i past_lead)) × ((get_or (lead_of s h style beatS).notes i past_note).midi ≡ (get_or m.notes i past_lead).note)
-        × ((get_or (lead_of s h style beatS).notes i past_note).role ≡ noted_of (get_or m.notes i past_lead).role)
+    pub keeps : (i : ℕ) → i < (lead_of s h style beatS).value.n
+        → ((get_or (lead_of s h style beatS).value.at i past_note).bar ≡ lead_bar (get_or m.notes i past_lead)) × ((get_or (lead_of s h style beatS).value.at i past_note).midi ≡ (get_or m.notes i past_lead).note)
+        × ((get_or (lead_of s h style beatS).value.at i past_note).role ≡ noted_of (get_or m.notes i past_lead).role)
     unfolding lead_of
     keeps i a = played_keeps m beatS l.dur sung_good.1 i (omega (arith, same_count))
 
     -- each note is in the style's window, and its class in the scale
-    pub lead_fits : (i : ℕ) → i < (lead_of s h style beatS).count
-        → (l.lo ≤ (get_or (lead_of s h style beatS).notes i past_note).midi) × ((get_or (lead_of s h style beatS).notes i past_note).midi ≤ l.hi)
-        × (has_of (pcs_of h.scale) ((get_or (lead_of s h style beatS).notes i past_note).midi % 12) ≡ true)
+    pub lead_fits : (i : ℕ) → i < (lead_of s h style beatS).value.n
+        → (l.lo ≤ (get_or (lead_of s h style beatS).value.at i past_note).midi) × ((get_or (lead_of s h style beatS).value.at i past_note).midi ≤ l.hi)
+        × (has_of (pcs_of h.scale) ((get_or (lead_of s h style beatS).value.at i past_note).midi % 12) ≡ true)
     lead_fits i a =
         let note = (get_or m.notes i past_lead).note in
         let f = fits_what (pool_of h.scale) l.lo l.hi note (sung_good.0.notes i (omega (arith, same_count))) in
         rw (keeps i a).1 (f.0, f.1, sym (pool_at (pcs_of h.scale) (note % 12) (omega arith)) ∙ f.2)
 
     -- each note has one of the six roles
-    pub lead_roles : (i : ℕ) → i < (lead_of s h style beatS).count → Leads (get_or (lead_of s h style beatS).notes i past_note)
+    pub lead_roles : (i : ℕ) → i < (lead_of s h style beatS).value.n → Leads (get_or (lead_of s h style beatS).value.at i past_note)
     lead_roles i a = rw (keeps i a).2 (noted_six (get_or m.notes i past_lead).role)
 
     -- at most 56 notes, bar after bar, and zero behind them
-    pub lead_laid : Laid past_note no_note note_bar 56 7 (lead_of s h style beatS).notes (lead_of s h style beatS).count
+    pub lead_laid : Laid past_note no_note note_bar 56 7 (lead_of s h style beatS).value.at (lead_of s h style beatS).value.n
     unfolding lead_of
     lead_laid = record {
       size = played_size m beatS l.dur;
@@ -101,13 +101,13 @@ module _ (s : NoiseStream) (h : Harmony) (tonal : Tonal h) (style : Style) where
       rest = λ i a b. played_rest m beatS l.dur i (omega (arith, same_count)) b;
     }
 
-    same_in_bar : (v : ℕ) → count (λ x. eqb (note_bar x) v) (take (lead_of s h style beatS).count (lead_of s h style beatS).notes) ≡ count (λ x. eqb (lead_bar x) v) (take (lead_of s h style beatS).count m.notes)
+    same_in_bar : (v : ℕ) → count (λ x. eqb (note_bar x) v) (take (lead_of s h style beatS).value.n (lead_of s h style beatS).value.at) ≡ count (λ x. eqb (lead_bar x) v) (take (lead_of s h style beatS).value.n m.notes)
     same_in_bar v =
-        count_same (λ x. eqb (note_bar x) v) (λ x. eqb (lead_bar x) v) past_note past_lead (lead_of s h style beatS).notes m.notes (lead_of s h style beatS).count
+        count_same (λ x. eqb (note_bar x) v) (λ x. eqb (lead_bar x) v) past_note past_lead (lead_of s h style beatS).value.at m.notes (lead_of s h style beatS).value.n
         (omega (arith, lead_laid.few, lead_laid.size))
         (omega (arith, lead_laid.few, sung_laid.size))
         (λ i a. ap (λ (b : ℕ). eqb b v) (keeps i a).0)
 
     -- at most 7 notes in any one bar
-    pub lead_few : EachAtMost note_bar 7 (take (lead_of s h style beatS).count (lead_of s h style beatS).notes)
+    pub lead_few : EachAtMost note_bar 7 (take (lead_of s h style beatS).value.n (lead_of s h style beatS).value.at)
     lead_few v = rw (same_in_bar v, same_count) (sung_few v)

@@ -13,7 +13,7 @@ use lib.Seq.{get_or-set_same, get_or-set_other}
 use lib.Ieee.{nan}
 use Rattle.streams.specs.declared.stream.NoiseStream.{NoiseStream}
 use Rattle.composer.specs.Chord.{past_chord}
-use Rattle.composer.specs.Lead.Beats.{past_beats}
+use Rattle.composer.specs.Lead.Beats.{Beats, past_beats}
 use Rattle.composer.specs.Lead.Scale.{fits_of}
 use Rattle.composer.specs.Lead.Line.{place_of}
 use Rattle.composer.specs.Lead.Ground.{ground_of}
@@ -21,7 +21,6 @@ use Rattle.composer.specs.Lead.Melody.{past_lead, step_of, opening_of, first_sun
 use Rattle.composer.specs.Lead.Sound.{Sound, Fit, Good, Ready}
 use Rattle.composer.specs.declared.chord.Chord.{Chord}
 use Rattle.composer.specs.declared.style.LeadStyle.{LeadStyle}
-use Rattle.composer.specs.declared.lead.beats.Beats.{Beats}
 use Rattle.composer.specs.declared.lead.line.Place.{Place}
 use Rattle.composer.specs.declared.lead.line.Line.{Line}
 use Rattle.composer.specs.declared.lead.ground.Ground.{Ground}

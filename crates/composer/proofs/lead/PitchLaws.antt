@@ -16,14 +16,13 @@ use Rattle.streams.specs.declared.stream.NoiseStream.{NoiseStream}
 use Rattle.streams.specs.declared.stream.Draw.{Draw}
 use Rattle.streams.proofs.DrawLaws.{pick_lt}
 use Rattle.composer.specs.Lead.Scale.{fits_of, room_of, walk_of, scale_step_of}
-use Rattle.composer.specs.Lead.Tones.{listed, distance_of, near_of}
+use Rattle.composer.specs.Lead.Tones.{Tones, listed, distance_of, near_of}
 use Rattle.composer.specs.Lead.Line.{opens_line_of, carried_of}
 use Rattle.composer.specs.Lead.Role.{quotes_of, peaks_of, leapt_of, tone_chance, chosen_of, chance_role_of, role_of}
 use Rattle.composer.specs.Lead.Ground.{tones_for_of}
 use Rattle.composer.specs.Lead.Pitch.{held_of, peak_note_of, chord_note_of, passing_note_of, pitch_of}
 use Rattle.composer.specs.Lead.Melody.{step_of}
 use Rattle.composer.specs.Lead.Sound.{Tuned, Sound, Fit, Quotable}
-use Rattle.composer.specs.declared.lead.tones.Tones.{Tones}
 use Rattle.composer.specs.declared.lead.line.Place.{Place}
 use Rattle.composer.specs.declared.lead.line.Line.{Line}
 use Rattle.composer.specs.declared.lead.role.Role.{Role}

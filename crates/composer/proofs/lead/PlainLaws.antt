@@ -21,7 +21,7 @@ use Rattle.composer.specs.Plain.{latest, softest, loudest, shortest, longest, Fi
 use Rattle.composer.specs.Spread.{draw_of, after_of}
 use Rattle.composer.specs.Style.{lead_style_of}
 use Rattle.composer.specs.Lead.{sung_of, lead_of}
-use Rattle.composer.specs.Lead.Beats.{past_beats}
+use Rattle.composer.specs.Lead.Beats.{Beats, past_beats}
 use Rattle.composer.specs.Lead.Ground.{ground_of}
 use Rattle.composer.specs.Lead.Line.{place_of}
 use Rattle.composer.specs.Lead.Melody.{past_lead, velocity_of, step_of, sing_of, bar_to, start_of, nothing_sung, bars_to, melody_of}
@@ -35,7 +35,6 @@ use Rattle.composer.specs.declared.harmony.Harmony.{Harmony}
 use Rattle.composer.specs.declared.style.LeadStyle.{LeadStyle}
 use Rattle.composer.specs.declared.style.Style.{Style}
 use Rattle.composer.specs.declared.style.Style.TheVariants.{Hiphop, Sleep}
-use Rattle.composer.specs.declared.lead.beats.Beats.{Beats}
 use Rattle.composer.specs.declared.lead.ground.Ground.{Ground}
 use Rattle.composer.specs.declared.lead.melody.LeadNote.{LeadNote}
 use Rattle.composer.specs.declared.lead.melody.Sung.{Sung}
@@ -168,13 +167,13 @@ module _ (beatS : Float) (beat : In quickest slowest beatS) where
 
   module _ (m : Sung) (sung : (i : ℕ) → i < m.count → PlainSung (get_or m.notes i past_lead)) (dur : Float) (held : In shortest longest dur)
       (fit : Fits32 dur) where
-    play_full : (s : NoiseStream) (k : ℕ) → k ≤ m.count → Filled past_note PlainNote (play_to m beatS dur (silence_of s) k).notes (play_to m beatS dur (silence_of s) k).count
+    play_full : (s : NoiseStream) (k : ℕ) → k ≤ m.count → Filled past_note PlainNote (play_to m beatS dur (silence_of s) k).value.at (play_to m beatS dur (silence_of s) k).value.n
     unfolding play_to play_of played_note_of
-    play_full s zero h = filled_none past_note PlainNote (silence_of s).notes
+    play_full s zero h = filled_none past_note PlainNote (silence_of s).value.at
     play_full s (suc k) h =
         let l = play_to m beatS dur (silence_of s) k in
         let x = sung k (omega arith) in
-        filled_push past_note PlainNote l.notes l.count _ (play_full s k (omega arith))
+        filled_push past_note PlainNote l.value.at l.value.n _ (play_full s k (omega arith))
         (record {
           at = played_at l.stream (get_or m.notes k past_lead) x;
           vel = accented_in _ _ x.vel;
@@ -189,9 +188,9 @@ module _ (beatS : Float) (beat : In quickest slowest beatS) where
     sung_plain : (i : ℕ) → i < (sung_of s h style).count → PlainSung (get_or (sung_of s h style).notes i past_lead)
     sung_plain i k = let good = sung_good s h tonal style in sung_full s h style i k (omega (arith, good.0.size, good.1))
 
-    filled : Filled past_note PlainNote (lead_of s h style beatS).notes (lead_of s h style beatS).count
+    filled : Filled past_note PlainNote (lead_of s h style beatS).value.at (lead_of s h style beatS).value.n
     unfolding lead_of played_of
     filled = let m = sung_of s h style in play_full m sung_plain (lead_style_of style).dur (dur_in style) (dur_fits style) m.line.stream m.count (omega arith)
 
-    pub lead_plain : (i : ℕ) → i < (lead_of s h style beatS).count → PlainNote (get_or (lead_of s h style beatS).notes i past_note)
+    pub lead_plain : (i : ℕ) → i < (lead_of s h style beatS).value.n → PlainNote (get_or (lead_of s h style beatS).value.at i past_note)
     lead_plain i k = let laid = lead_laid s h tonal style beatS in filled i k (omega (arith, laid.size, laid.few))

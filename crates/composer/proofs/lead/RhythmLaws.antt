@@ -17,7 +17,7 @@ use Rattle.streams.specs.declared.stream.NoiseStream.{NoiseStream}
 use Rattle.streams.specs.declared.stream.Draw.{Draw}
 use Rattle.composer.specs.Note.{zero32}
 use Rattle.composer.specs.Style.{odds_of}
-use Rattle.composer.specs.Lead.Beats.{past_beats, beats_of, list_of, add_of, without, remove_of, settled, settle_of}
+use Rattle.composer.specs.Lead.Beats.{Beats, past_beats, beats_of, list_of, add_of, without, remove_of, settled, settle_of}
 use Rattle.composer.specs.Lead.Grid.{grid_beat_of, lead_grid}
 use Rattle.composer.specs.Lead.Push.{push_of, push_on_of}
 use Rattle.composer.specs.Lead.Statement.{empty_from, slot_of, slots_of, pushes_of, settled_of, statement_bar_of}
@@ -25,7 +25,6 @@ use Rattle.composer.specs.Lead.Answer.{drop_p, shift_of, vary_of, varied_of, dro
 use Rattle.composer.specs.Lead.Rhythm.{state_of, state_to, notes_in, fallback_first, fallback_third, fallback_of, statement_of, reply_of, reply_to, rhythm_of}
 use Rattle.composer.specs.Lead.Settled.{Quarter, Settled}
 use Rattle.composer.specs.declared.style.LeadStyle.{LeadStyle}
-use Rattle.composer.specs.declared.lead.beats.Beats.{Beats}
 use Rattle.composer.proofs.lead.BeatsLaws.{list_back, add_beats, rest_zero}
 use Rattle.composer.proofs.lead.SettleLaws.{settle_sorted, settle_spaced, settle_all, length_settled, none_near}
 use Rattle.composer.proofs.lead.QuarterLaws.{quarter_on, grid_quarters, push_quarter, shift_quarter}

@@ -19,7 +19,7 @@ use Rattle.streams.specs.declared.stream.NoiseStream.{NoiseStream}
 use Rattle.composer.specs.Chord.{past_chord}
 use Rattle.composer.specs.Harmony.{Tonal}
 use Rattle.composer.specs.Lead.{sung_of, lead_of}
-use Rattle.composer.specs.Lead.Beats.{past_beats}
+use Rattle.composer.specs.Lead.Beats.{Beats, past_beats}
 use Rattle.composer.specs.Lead.Ground.{ground_of}
 use Rattle.composer.specs.Lead.Line.{is_strong_of, place_of, carried_of}
 use Rattle.composer.specs.Lead.Melody.{past_lead, step_of, sing_of, bar_to, start_of, nothing_sung, bars_to, melody_of}
@@ -34,7 +34,6 @@ use Rattle.composer.specs.declared.chord.Chord.{Chord}
 use Rattle.composer.specs.declared.harmony.Harmony.{Harmony}
 use Rattle.composer.specs.declared.style.Style.{Style}
 use Rattle.composer.specs.declared.style.LeadStyle.{LeadStyle}
-use Rattle.composer.specs.declared.lead.beats.Beats.{Beats}
 use Rattle.composer.specs.declared.lead.ground.Ground.{Ground}
 use Rattle.composer.specs.declared.lead.line.Line.{Line}
 use Rattle.composer.specs.declared.lead.line.Place.{Place}
@@ -284,7 +283,7 @@ module _ (s : NoiseStream) (h : Harmony) (tonal : Tonal h) (style : Style) (beat
   beats = song_beats s style
 
   -- as many notes as the rhythm has beats
-  lead_count : (lead_of s h style beatS).count ≡ notes_before beats 8
+  lead_count : (lead_of s h style beatS).value.n ≡ notes_before beats 8
   unfolding lead_of sung_of
   lead_count =
       let l = lead_style_of style in
@@ -296,16 +295,16 @@ module _ (s : NoiseStream) (h : Harmony) (tonal : Tonal h) (style : Style) (beat
   sung_told = let l = lead_style_of style in melody_told (rhythm_of s l).stream beats h.bars (pool_of h.scale) l (song_ready s h tonal style)
 
   -- the pitches of the lane are those of the melody
-  midi_same : (n : ℕ) → n ≤ (lead_of s h style beatS).count → midi_before (song_start h style) (lead_of s h style beatS).notes n ≡ pitch_before (song_start h style) (sung_of s h style).notes n
+  midi_same : (n : ℕ) → n ≤ (lead_of s h style beatS).value.n → midi_before (song_start h style) (lead_of s h style beatS).value.at n ≡ pitch_before (song_start h style) (sung_of s h style).notes n
   unfolding midi_before pitch_before
   midi_same zero a = refl
   midi_same (suc n) a = (keeps s h tonal style beatS n a).1
 
   -- note i of bar k has the role that the rule gives it
-  told_at : (k i : ℕ) → k < 8 → i < (get_or beats k past_beats).n → ToldAt s h style (lead_of s h style beatS).notes (notes_before beats k + i)
+  told_at : (k i : ℕ) → k < 8 → i < (get_or beats k past_beats).n → ToldAt s h style (lead_of s h style beatS).value.at (notes_before beats k + i)
   told_at k i a b =
       let n = notes_before beats k + i in
-      let in_lane : n < (lead_of s h style beatS).count = omega (arith, lead_count, sum_within (notes_of_bar beats) k i 8 a b) in
+      let in_lane : n < (lead_of s h style beatS).value.n = omega (arith, lead_count, sum_within (notes_of_bar beats) k i 8 a b) in
       let kept = keeps s h tonal style beatS n in_lane in
       let rule = sung_told k i a b in
       let bar = get_or beats k past_beats in
@@ -322,10 +321,10 @@ module _ (s : NoiseStream) (h : Harmony) (tonal : Tonal h) (style : Style) (beat
       }
 
   -- and every note of the lane is such a note
-  pub lead_told : LeadTold s h style (lead_of s h style beatS).notes (lead_of s h style beatS).count
+  pub lead_told : LeadTold s h style (lead_of s h style beatS).value.at (lead_of s h style beatS).value.n
   lead_told = record {
     all = lead_count;
     each = λ n a.
         let p = sum_part (notes_of_bar beats) 8 n (omega (arith, lead_count)) in
-        subst (ToldAt s h style (lead_of s h style beatS).notes) (sym p.stands) (told_at p.part p.place p.few p.inside);
+        subst (ToldAt s h style (lead_of s h style beatS).value.at) (sym p.stands) (told_at p.part p.place p.few p.inside);
   }

@@ -16,11 +16,10 @@ use Rattle.streams.specs.Draw.{chance_of}
 use Rattle.streams.specs.declared.stream.NoiseStream.{NoiseStream}
 use Rattle.streams.specs.declared.stream.Draw.{Draw}
 use Rattle.composer.specs.Note.{zero32}
-use Rattle.composer.specs.Lead.Beats.{beats_of, add_of, settled}
+use Rattle.composer.specs.Lead.Beats.{Beats, beats_of, add_of, settled}
 use Rattle.composer.specs.Lead.Grid.{grid_beat_of}
 use Rattle.composer.specs.Lead.Push.{push_of, push_on_of}
 use Rattle.composer.specs.Lead.Statement.{empty_from, notes_of, slot_of, slots_of, pushes_of, settled_of}
-use Rattle.composer.specs.declared.lead.beats.Beats.{Beats}
 use Rattle.composer.proofs.lead.BeatsLaws.{list_back, add_beats}
 use Rattle.laws.proofs.Written.{Written, written_none, written_over, written_more, written_list}
 

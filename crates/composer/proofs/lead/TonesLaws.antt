@@ -15,11 +15,10 @@ use Rattle.std.proofs.lemmas.List.{take_all}
 use Rattle.laws.specs.Lists.{pad, filter_of}
 use Rattle.composer.specs.Chord.{root_class_of}
 use Rattle.composer.specs.Lead.Scale.{in_pool}
-use Rattle.composer.specs.Lead.Tones.{above_of, in_chord_of, lowered, lowest_from, lowest_of, is_tone_of, is_sung_of, no_class, kept, one, tones_in, packed, cleared_of, listed, tones_in_of, has_class, scale_notes_in, scale_notes_of, is_other, rank_of, closer_of, closest, nearest_of}
+use Rattle.composer.specs.Lead.Tones.{Tones, above_of, in_chord_of, lowered, lowest_from, lowest_of, is_tone_of, is_sung_of, no_class, kept, one, tones_in, packed, cleared_of, listed, tones_in_of, has_class, scale_notes_in, scale_notes_of, is_other, rank_of, closer_of, closest, nearest_of}
 use Rattle.composer.specs.Lead.Ground.{ground_of, ground_from}
 use Rattle.composer.specs.declared.chord.Chord.{Chord}
 use Rattle.composer.specs.declared.style.LeadStyle.{LeadStyle}
-use Rattle.composer.specs.declared.lead.tones.Tones.{Tones}
 use Rattle.laws.proofs.Counts.{filter_append, filter_both}
 use Rattle.laws.proofs.Written.{Written, written_none, written_over, written_more}
 

@@ -8,12 +8,11 @@ use lib.ListN.{get_or, set}
 use lib.Seq.{set-get_or}
 use Rattle.streams.specs.declared.stream.NoiseStream.{NoiseStream}
 use Rattle.streams.specs.declared.stream.Draw.{Draw}
-use Rattle.composer.specs.Lead.Beats.{past_beats}
+use Rattle.composer.specs.Lead.Beats.{Beats, past_beats}
 use Rattle.composer.specs.Lead.Statement.{statement_bar_of}
 use Rattle.composer.specs.Lead.Answer.{answer_bar_of}
 use Rattle.composer.specs.Lead.Rhythm.{state_of, notes_in, fallback_first, fallback_third, fallback_of, reply_of}
 use Rattle.composer.specs.declared.style.LeadStyle.{LeadStyle}
-use Rattle.composer.specs.declared.lead.beats.Beats.{Beats}
 
 abbrev pub whole : List Beats → NoiseStream → Draw (List Beats)
 whole bars stream = record { value = bars; stream = stream }

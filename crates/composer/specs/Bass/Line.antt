@@ -1,22 +1,22 @@
 -- A bar's bass notes: the root on its first step, then the root or its fifth, and a pickup into the next bar.
 -- Definitions only.
-use Rattle.std.specs.Prelude.{Bool, false, cond, ◌&&◌, ℕ, zero, suc, ◌+◌, ◌-◌, ◌<◌, eqb, ltb, leb, get_or, set, Float}
+use Rattle.std.specs.Prelude.{Bool, false, cond, ◌&&◌, ℕ, zero, suc, ◌+◌, ◌-◌, ◌<◌, eqb, ltb, leb, get_or, Float}
 use Rattle.std.specs.Float.{binary32}
 use Rattle.std.specs.Float.Ieee.{of_bits, add, sub, mul, lt}
 use Rattle.laws.specs.Floats.{f32_of}
 use Rattle.streams.specs.Draw.{chance_of}
 use Rattle.streams.specs.declared.stream.NoiseStream.{NoiseStream}
 use Rattle.streams.specs.declared.stream.Draw.{Draw}
+use Rattle.composer.specs.Few.{one_more}
 use Rattle.composer.specs.Chord.{in_octave_from}
 use Rattle.composer.specs.Spread.{draw_of, after_of}
 use Rattle.composer.specs.Timing.{sixteenth_beats, bar_s_of, bar_start_of}
 use Rattle.composer.specs.Style.{odds_of}
-use Rattle.composer.specs.Bass.Rhythm.{Rising}
+use Rattle.composer.specs.Bass.Rhythm.{Steps, Rising}
 use Rattle.composer.specs.declared.note.NoteRole.{NoteRole}
 use Rattle.composer.specs.declared.spread.Spread.{Spread}
 use Rattle.composer.specs.declared.style.BassStyle.{BassStyle}
-use Rattle.composer.specs.declared.bass.BassLane.{BassLane}
-use Rattle.composer.specs.declared.bass.rhythm.Steps.{Steps}
+use Rattle.composer.specs.declared.few.Few.{Few}
 use Rattle.composer.specs.declared.bass.line.BarPart.{BarPart}
 use Rattle.composer.specs.declared.bass.line.Strike.{Strike}
 use Rattle.composer.specs.declared.note.Note.{Note}
@@ -119,11 +119,15 @@ played_note_of s p style beatS i =
       stream = d.stream;
     }
 
+-- ---- the lane: its notes, in the order drawn, and the stream after their draws
+abbrev pub BassLane : Type 0
+BassLane = Draw (Few Note 104)
+
 -- one note more
 unfoldable pub play_of : BassLane → BarPart → BassStyle → Float → ℕ → BassLane
 play_of l p style beatS i =
     let d = played_note_of l.stream p style beatS i in
-    record { notes = set l.notes l.count d.value; count = l.count + 1; stream = d.stream }
+    record { value = one_more l.value d.value; stream = d.stream }
 
 -- the bar's first i notes
 unfoldable pub bar_played : BassLane → BarPart → BassStyle → Float → ℕ → BassLane

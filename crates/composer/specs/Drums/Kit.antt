@@ -1,11 +1,12 @@
 -- One bar of the kit: its kicks, its snares, its hats. A hit draws where it lands, then how hard. Definitions only.
-use Rattle.std.specs.Prelude.{Bool, ◌&&◌, cond, ℕ, zero, suc, ◌+◌, ◌%◌, eqb, get_or, set, Float}
+use Rattle.std.specs.Prelude.{Bool, ◌&&◌, cond, ℕ, zero, suc, ◌%◌, eqb, get_or, Float}
 use Rattle.std.specs.Float.{nan, binary32}
 use Rattle.std.specs.Float.Ieee.{of_bits, add, mul, div, ne}
 use Rattle.laws.specs.Floats.{f32_of, fract_of}
 use Rattle.streams.specs.Draw.{chance_of}
 use Rattle.streams.specs.declared.stream.NoiseStream.{NoiseStream}
 use Rattle.streams.specs.declared.stream.Draw.{Draw}
+use Rattle.composer.specs.Few.{one_more}
 use Rattle.composer.specs.Note.{zero32}
 use Rattle.composer.specs.Spread.{draw_of, jitter_of}
 use Rattle.composer.specs.Timing.{swing_delay_of, held_at_zero}
@@ -13,7 +14,7 @@ use Rattle.composer.specs.Drums.Grooves.{ghost_kick}
 use Rattle.composer.specs.declared.note.DrumKind.{DrumKind}
 use Rattle.composer.specs.declared.spread.Spread.{Spread}
 use Rattle.composer.specs.declared.spread.Jitter.{Jitter}
-use Rattle.composer.specs.declared.drums.DrumLane.{DrumLane}
+use Rattle.composer.specs.declared.few.Few.{Few}
 use Rattle.composer.specs.declared.drums.grooves.Kick.{Kick}
 use Rattle.composer.specs.declared.drums.grooves.Groove.{Groove}
 use Rattle.composer.specs.declared.drums.kit.Bar.{Bar}
@@ -30,14 +31,17 @@ eighth_of bar = div binary32 bar.beat_s (of_bits binary32 0x4000_0000)
 abbrev pub ends_statement : Bar → Bool
 ends_statement bar = eqb (bar.number % 4) 3
 
--- ---- the lane
+-- ---- the lane: its hits, in the order drawn, and the stream after their draws
+abbrev pub DrumLane : Type 0
+DrumLane = Draw (Few Hit 98)
+
 -- after a draw that adds no hit
 abbrev pub drawn_on : DrumLane → NoiseStream → DrumLane
-drawn_on l s = record { hits = l.hits; count = l.count; stream = s }
+drawn_on l s = record { value = l.value; stream = s }
 
 -- one hit more, and the stream after its draws
 abbrev pub struck_of : DrumLane → Draw Hit → DrumLane
-struck_of l d = record { hits = set l.hits l.count d.value; count = l.count + 1; stream = d.stream }
+struck_of l d = record { value = one_more l.value d.value; stream = d.stream }
 
 -- 0.95 and 0.1
 abbrev pub hit_accent : Spread

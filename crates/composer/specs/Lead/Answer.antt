@@ -6,11 +6,10 @@ use Rattle.std.specs.Float.Ieee.{of_bits, lt, add, neg}
 use Rattle.streams.specs.Draw.{chance_of, coin_of, pick_of}
 use Rattle.streams.specs.declared.stream.NoiseStream.{NoiseStream}
 use Rattle.streams.specs.declared.stream.Draw.{Draw}
-use Rattle.composer.specs.Lead.Beats.{list_of, remove_of}
+use Rattle.composer.specs.Lead.Beats.{Beats, list_of, remove_of}
 use Rattle.composer.specs.Lead.Grid.{grid_first, grid_last}
 use Rattle.composer.specs.Lead.Push.{push_on_of}
 use Rattle.composer.specs.Lead.Statement.{empty_from, settled_of}
-use Rattle.composer.specs.declared.lead.beats.Beats.{Beats}
 
 -- 0.2
 abbrev pub shift_p : Float

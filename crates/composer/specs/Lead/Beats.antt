@@ -1,12 +1,17 @@
 -- A bar's beats in an array: one more, one less, and settled. Definitions only.
-use Rattle.std.specs.Prelude.{Bool, cond, List, [], ◌∷◌, ℕ, zero, suc, ◌+◌, length, take, set, Float}
+use Rattle.std.specs.Prelude.{Bool, cond, List, [], ◌∷◌, ℕ, zero, suc, length, take, Float}
 use Rattle.std.specs.Float.{nan, binary32}
 use Rattle.std.specs.Float.Ieee.{of_bits, lt, neg, sub}
 use Rattle.laws.specs.Lists.{pad}
 use Rattle.laws.specs.Order.{total_le}
 use Rattle.laws.specs.Sorts.{sort}
+use Rattle.composer.specs.Few.{one_more}
 use Rattle.composer.specs.Note.{zero32}
-use Rattle.composer.specs.declared.lead.beats.Beats.{Beats}
+use Rattle.composer.specs.declared.few.Few.{Few}
+
+-- a bar's beats: the first n entries, in order; the others are 0
+abbrev pub Beats : Type 0
+Beats = Few Float 7
 
 abbrev pub past_beats : Beats
 past_beats = record { at = []; n = 0 }
@@ -20,7 +25,7 @@ abbrev pub list_of : Beats → List Float
 list_of b = take b.n b.at
 
 abbrev pub add_of : Beats → Float → Beats
-add_of b x = record { at = set b.at b.n x; n = b.n + 1 }
+add_of b x = one_more b x
 
 -- all but the entry at k; the later ones move down
 unfoldable pub without : ℕ → List Float → List Float

@@ -1,10 +1,9 @@
 -- What a bar's notes are drawn from: the window, the velocities, and the chord's tones. Definitions only.
 use Rattle.std.specs.Prelude.{Bool, cond, List}
 use Rattle.composer.specs.Chord.{root_class_of}
-use Rattle.composer.specs.Lead.Tones.{no_class, tones_in_of, chord_tones_of, strong_of}
+use Rattle.composer.specs.Lead.Tones.{Tones, no_class, tones_in_of, chord_tones_of, strong_of}
 use Rattle.composer.specs.declared.chord.Chord.{Chord}
 use Rattle.composer.specs.declared.style.LeadStyle.{LeadStyle}
-use Rattle.composer.specs.declared.lead.tones.Tones.{Tones}
 use Rattle.composer.specs.declared.lead.ground.Ground.{Ground}
 
 unfoldable pub ground_of : LeadStyle → Chord → List Bool → Ground

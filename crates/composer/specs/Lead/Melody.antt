@@ -6,7 +6,7 @@ use Rattle.streams.specs.declared.stream.NoiseStream.{NoiseStream}
 use Rattle.composer.specs.Chord.{past_chord}
 use Rattle.composer.specs.Note.{zero32}
 use Rattle.composer.specs.Spread.{draw_of}
-use Rattle.composer.specs.Lead.Beats.{past_beats}
+use Rattle.composer.specs.Lead.Beats.{Beats, past_beats}
 use Rattle.composer.specs.Lead.Tones.{no_class, tones_in, nearest_of}
 use Rattle.composer.specs.Lead.Line.{place_of, carried_of}
 use Rattle.composer.specs.Lead.Role.{role_of}
@@ -14,7 +14,6 @@ use Rattle.composer.specs.Lead.Ground.{ground_of}
 use Rattle.composer.specs.Lead.Pitch.{pitch_of}
 use Rattle.composer.specs.declared.chord.Chord.{Chord}
 use Rattle.composer.specs.declared.style.LeadStyle.{LeadStyle}
-use Rattle.composer.specs.declared.lead.beats.Beats.{Beats}
 use Rattle.composer.specs.declared.lead.line.Place.{Place}
 use Rattle.composer.specs.declared.lead.line.Line.{Line}
 use Rattle.composer.specs.declared.lead.role.Role.{Role}

@@ -6,9 +6,8 @@ use Rattle.streams.specs.Draw.{pick_of, chance_of, coin_of}
 use Rattle.streams.specs.declared.stream.NoiseStream.{NoiseStream}
 use Rattle.streams.specs.declared.stream.Draw.{Draw}
 use Rattle.composer.specs.Lead.Scale.{scale_step_of}
-use Rattle.composer.specs.Lead.Tones.{distance_of, near_of}
+use Rattle.composer.specs.Lead.Tones.{Tones, distance_of, near_of}
 use Rattle.composer.specs.Lead.Ground.{tones_for_of}
-use Rattle.composer.specs.declared.lead.tones.Tones.{Tones}
 use Rattle.composer.specs.declared.lead.line.Place.{Place}
 use Rattle.composer.specs.declared.lead.line.Line.{Line}
 use Rattle.composer.specs.declared.lead.role.Role.{Role}

@@ -8,8 +8,7 @@ use Rattle.streams.specs.declared.stream.NoiseStream.{NoiseStream}
 use Rattle.streams.specs.declared.stream.Draw.{Draw}
 use Rattle.composer.specs.Note.{zero32}
 use Rattle.composer.specs.Timing.{sixteenth_beats}
-use Rattle.composer.specs.Lead.Beats.{add_of}
-use Rattle.composer.specs.declared.lead.beats.Beats.{Beats}
+use Rattle.composer.specs.Lead.Beats.{Beats, add_of}
 
 -- 0.15
 abbrev pub push_p : Float

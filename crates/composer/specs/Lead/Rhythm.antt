@@ -4,11 +4,10 @@ use Rattle.std.specs.Float.{binary32}
 use Rattle.std.specs.Float.Ieee.{of_bits}
 use Rattle.streams.specs.declared.stream.NoiseStream.{NoiseStream}
 use Rattle.streams.specs.declared.stream.Draw.{Draw}
-use Rattle.composer.specs.Lead.Beats.{past_beats, beats_of}
+use Rattle.composer.specs.Lead.Beats.{Beats, past_beats, beats_of}
 use Rattle.composer.specs.Lead.Statement.{statement_bar_of}
 use Rattle.composer.specs.Lead.Answer.{answer_bar_of}
 use Rattle.composer.specs.declared.style.LeadStyle.{LeadStyle}
-use Rattle.composer.specs.declared.lead.beats.Beats.{Beats}
 
 -- bar k of the statement
 unfoldable pub state_of : Draw (List Beats) → LeadStyle → ℕ → Draw (List Beats)

@@ -6,7 +6,7 @@ use Rattle.laws.specs.Sums.{sum_to}
 use Rattle.streams.specs.Draw.{chance_of}
 use Rattle.streams.specs.declared.stream.NoiseStream.{NoiseStream}
 use Rattle.composer.specs.Chord.{past_chord}
-use Rattle.composer.specs.Lead.Beats.{past_beats}
+use Rattle.composer.specs.Lead.Beats.{Beats, past_beats}
 use Rattle.composer.specs.Lead.Ground.{ground_of}
 use Rattle.composer.specs.Lead.Line.{is_strong_of}
 use Rattle.composer.specs.Lead.Melody.{bar_to, start_of, nothing_sung, bars_to}
@@ -21,7 +21,6 @@ use Rattle.composer.specs.declared.harmony.Harmony.{Harmony}
 use Rattle.composer.specs.declared.note.Note.{Note}
 use Rattle.composer.specs.declared.style.LeadStyle.{LeadStyle}
 use Rattle.composer.specs.declared.style.Style.{Style}
-use Rattle.composer.specs.declared.lead.beats.Beats.{Beats}
 use Rattle.composer.specs.declared.lead.melody.Sung.{Sung}
 use Rattle.composer.specs.declared.lead.role.Role.{Role}
 use Rattle.composer.specs.declared.lead.role.Role.TheVariants.{Quote, Close, Peak, Resolve, ChordTone, Passing}

@@ -5,8 +5,7 @@ use Rattle.std.specs.Float.Ieee.{mul, of_bits}
 use Rattle.laws.specs.Floats.{f32_of}
 use Rattle.laws.specs.Order.{total_le}
 use Rattle.laws.specs.Sorts.{All, Sorted}
-use Rattle.composer.specs.Lead.Beats.{beats_of, near_of}
-use Rattle.composer.specs.declared.lead.beats.Beats.{Beats}
+use Rattle.composer.specs.Lead.Beats.{Beats, beats_of, near_of}
 
 -- q times 0.25
 abbrev pub quarters : ℕ → Float

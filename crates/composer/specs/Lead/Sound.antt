@@ -2,15 +2,13 @@
 use Rattle.std.specs.Prelude.{◌≡◌, Bool, true, List, ℕ, ◌+◌, ◌-◌, ◌≤◌, ◌<◌, max, T, get_or, length}
 use Rattle.laws.specs.Lists.{all_of}
 use Rattle.composer.specs.Chord.{past_chord}
-use Rattle.composer.specs.Lead.Beats.{past_beats}
+use Rattle.composer.specs.Lead.Beats.{Beats, past_beats}
 use Rattle.composer.specs.Lead.Scale.{fits_of, snapped_of}
-use Rattle.composer.specs.Lead.Tones.{no_class, tones_in, listed}
+use Rattle.composer.specs.Lead.Tones.{Tones, no_class, tones_in, listed}
 use Rattle.composer.specs.Lead.Ground.{ground_of}
 use Rattle.composer.specs.Lead.Melody.{past_lead, first_sung_of, start_of}
 use Rattle.composer.specs.declared.chord.Chord.{Chord}
 use Rattle.composer.specs.declared.style.LeadStyle.{LeadStyle}
-use Rattle.composer.specs.declared.lead.beats.Beats.{Beats}
-use Rattle.composer.specs.declared.lead.tones.Tones.{Tones}
 use Rattle.composer.specs.declared.lead.line.Line.{Line}
 use Rattle.composer.specs.declared.lead.role.Role.{Role}
 use Rattle.composer.specs.declared.lead.role.Role.TheVariants.{Quote, Close, Peak, Resolve, ChordTone, Passing}

@@ -4,12 +4,11 @@ use mathlib.Core.List.{[], foldl}
 use Rattle.streams.specs.Draw.{chance_of}
 use Rattle.streams.specs.declared.stream.NoiseStream.{NoiseStream}
 use Rattle.streams.specs.declared.stream.Draw.{Draw}
-use Rattle.composer.specs.Lead.Beats.{beats_of, list_of, add_of, settle_of}
+use Rattle.composer.specs.Lead.Beats.{Beats, beats_of, list_of, add_of, settle_of}
 use Rattle.composer.specs.Lead.Grid.{lead_grid}
 use Rattle.composer.specs.Lead.Push.{push_on_of}
 use Rattle.composer.specs.Style.{odds_of}
 use Rattle.composer.specs.declared.style.LeadStyle.{LeadStyle}
-use Rattle.composer.specs.declared.lead.beats.Beats.{Beats}
 
 -- no beat yet
 abbrev pub empty_from : NoiseStream → Draw Beats

@@ -5,7 +5,11 @@ use Rattle.composer.specs.Chord.{root_class_of}
 use Rattle.composer.specs.Lead.Scale.{in_pool}
 use Rattle.composer.specs.declared.chord.Chord.{Chord}
 use Rattle.composer.specs.declared.lead.tones.ChordTones.{ChordTones}
-use Rattle.composer.specs.declared.lead.tones.Tones.{Tones}
+use Rattle.composer.specs.declared.few.Few.{Few}
+
+-- notes in ascending order, one for each semitone of the widest window
+abbrev pub Tones : Type 0
+Tones = Few ℕ 20
 
 -- n is c, or whole octaves above it
 abbrev pub above_of : ℕ → ℕ → Bool

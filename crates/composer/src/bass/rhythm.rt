@@ -2,15 +2,12 @@
 ghost use Rattle.std.specs.Prelude.{cond, ◌≡◌, ◌<◌};
 ghost use Rattle.composer.specs.Bass.Rhythm.{first_beat_sum, root_step_of, bass_rhythm_of, bass_rhythms_of};
 
+use crate::few::Few;
 use streams::draw::chance;
 use streams::stream::{Draw, NoiseStream};
 
 // The first n of `at`: the root's step, in the first beat, then the later ones that sound.
-#[derive(Clone, Copy)]
-pub struct Steps {
-    pub at: [u8; 13],
-    pub n: usize,
-}
+pub type Steps = Few<u8, 13>;
 
 // For each 16th from the downbeat, the chance that a note starts there.
 const BASS_STEP_P: [f32; 16] = [

@@ -3,14 +3,11 @@ ghost use Rattle.std.specs.Prelude.{◌≡◌, ◌<◌, ◌≤◌, length, take}
 ghost use Rattle.std.specs.Float.{nan};
 ghost use Rattle.composer.specs.Lead.Beats.{beats_of, remove_of, size_of, near_of, more_of, thin_of, settled};
 
+use crate::few::Few;
 use crate::sort::sort_front;
 
 // The first n entries; the others are 0.
-#[derive(Clone, Copy)]
-pub struct Beats {
-    pub at: [f32; 7],
-    pub n: usize,
-}
+pub type Beats = Few<f32, 7>;
 
 // Two beats closer than this merge into the first.
 const MIN_GAP_BEATS: f32 = 0.5;

@@ -2,6 +2,7 @@
 ghost use Rattle.std.specs.Prelude.{◌≡◌, ◌≤◌};
 ghost use Rattle.composer.specs.Lead.Played.{on_grid_of, played_note_of, played_of};
 
+use crate::few::Few;
 use crate::lead::LeadLane;
 use crate::lead::melody::{LeadNote, Sung};
 use crate::note::{NO_NOTE, Note};
@@ -56,9 +57,11 @@ pub(crate) fn played(m: Sung, beat_s: f32, dur: f32) -> LeadLane
         notes[i] = p.value;
         stream = p.stream;
     }
-    LeadLane {
-        notes,
-        count: m.count,
+    Draw {
+        value: Few {
+            at: notes,
+            n: m.count,
+        },
         stream,
     }
 }

@@ -3,14 +3,11 @@ ghost use Rattle.std.specs.Prelude.{◌≡◌, ◌+◌, ◌≤◌, ◌<◌, leng
 ghost use Rattle.composer.specs.Lead.Tones.{lowest_of, cleared_of, scale_notes_of, chord_tones_of, strong_of, rank_of, nearest_of, near_of};
 
 use crate::chord::{Chord, OCTAVE};
+use crate::few::Few;
 use crate::lead::scale::has;
 
 // Notes in ascending order: the first n of `at`, which has one for each semitone of the widest window.
-#[derive(Clone, Copy)]
-pub struct Tones {
-    pub at: [u8; 20],
-    pub n: usize,
-}
+pub type Tones = Few<u8, 20>;
 
 // A chord's tones, and those of them that are of another class than its root.
 #[derive(Clone, Copy)]
@@ -72,7 +69,7 @@ pub(crate) fn chord_tones(notes: Tones, chord: Chord) -> ChordTones
     let mut n: usize = 0;
     let mut others = [0u8; 20];
     let mut m: usize = 0;
-    for &x in &notes.at[..notes.n] {
+    for &x in notes.used() {
         let class = x % OCTAVE;
         // a chord's note, or whole octaves above one: not below the lowest of its class
         let keep = lowest[class as usize] <= x as u16;
@@ -120,5 +117,5 @@ pub(crate) fn near(t: Tones, target: u8) -> u8
     requires { (0 < t.n) × (t.n ≤ 20) }
     ensures { result ≡ near_of t target }
 {
-    nearest(&t.at[..t.n], target)
+    nearest(t.used(), target)
 }

@@ -2,8 +2,7 @@
 use mathlib.Core.Path.{◌≡◌, refl, sym, ap}
 use native.Mathlib.Omega.{arith}
 use Rattle.composer.specs.Bass.{part_of, bars_played, no_bass, bass_of}
-use Rattle.composer.specs.Bass.Line.{bar_played}
-use Rattle.composer.specs.declared.bass.BassLane.{BassLane}
+use Rattle.composer.specs.Bass.Line.{BassLane, bar_played}
 use Rattle.composer.proofs.bass.BassLaws.{drawn_rising, turn_asks, bars_on}
 use Rattle.composer.proofs.bass.LineLaws.{bar_on}
 use Rattle.composer.proofs.bass.bass.Goals as goal
@@ -18,7 +17,7 @@ loop-i-init c =
     let l = c.loop-b in
     let drawn = c.bass_rhythms-rhythms.result in
     let asks = turn_asks c.args.h c.requires drawn.value (drawn_rising drawn c.args.s c.bass_rhythms-rhythms.ensures) c.bass_style-knobs.result c.args.beat_s (no_bass drawn.stream) l.b (omega arith) refl in
-    let played = ap (λ (x : BassLane). x.count) l.invariant.1 in
+    let played = ap (λ (x : BassLane). x.value.n) l.invariant.1 in
     (omega arith, refl, rw (c.root_class-in-loop-b.ensures, c.root_class.ensures) asks.0, omega (arith, asks.1, played), omega arith, refl)
 
 pub loop-i-preserved : goal.loop-i-preserved

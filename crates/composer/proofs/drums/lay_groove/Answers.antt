@@ -4,8 +4,7 @@ use Prim.Native.Nat.{◌+◌, ◌≤◌}
 use native.Mathlib.Numerals.{add-one}
 use native.Mathlib.Omega.{arith}
 use Rattle.composer.specs.Drums.{no_hits, bars_to, lay_groove_of}
-use Rattle.composer.specs.Drums.Kit.{push_kick_of, push_snare_of, snares_to, push_hat_of, lay_hat_of, hats_to}
-use Rattle.composer.specs.declared.drums.DrumLane.{DrumLane}
+use Rattle.composer.specs.Drums.Kit.{DrumLane, push_kick_of, push_snare_of, snares_to, push_hat_of, lay_hat_of, hats_to}
 use Rattle.composer.proofs.drums.KitLaws.{kick_few, kicks_to, bar_laid, bars_most}
 use Rattle.composer.proofs.drums.lay_groove.Invariants.{lane}
 use Rattle.composer.proofs.drums.lay_groove.Goals as goal
@@ -19,7 +18,7 @@ unfolding kicks_to
 loop-k-init c =
     let l = c.loop-number in
     let few : c.kick_count-kicks.result ≤ 3 = rw c.kick_count-kicks.ensures (kick_few c.args.g c.bar_of-bar.result) in
-    let room : l.count + 13 ≤ 98 = omega (arith, ap (λ (m : DrumLane). m.count) l.invariant.1, bars_most (no_hits c.args.s) c.args.g c.args.beat_s c.requires l.number) in
+    let room : l.count + 13 ≤ 98 = omega (arith, ap (λ (m : DrumLane). m.value.n) l.invariant.1, bars_most (no_hits c.args.s) c.args.g c.args.beat_s c.requires l.number) in
     (omega arith, few, room, omega arith, refl)
 
 pub loop-k-preserved : goal.loop-k-preserved

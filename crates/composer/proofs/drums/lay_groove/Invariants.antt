@@ -4,15 +4,14 @@ use mathlib.Core.List.{List}
 use Prim.Native.Nat.{ℕ, ◌+◌, ◌≤◌}
 use Rattle.streams.specs.declared.stream.NoiseStream.{NoiseStream}
 use Rattle.composer.specs.Drums.{bars_to}
-use Rattle.composer.specs.Drums.Kit.{snares_to, hats_to}
+use Rattle.composer.specs.Drums.Kit.{DrumLane, snares_to, hats_to}
 use Rattle.composer.specs.declared.note.Hit.{Hit}
-use Rattle.composer.specs.declared.drums.DrumLane.{DrumLane}
 use Rattle.composer.proofs.drums.KitLaws.{kicks_to}
 use Rattle.composer.proofs.drums.lay_groove.Given as goal
 
 -- the loops' variables as a lane
 abbrev pub lane : List Hit → ℕ → NoiseStream → DrumLane
-lane hits count stream = record { hits = hits; count = count; stream = stream }
+lane hits count stream = record { value = record { at = hits; n = count }; stream = stream }
 
 abbrev pub invariant-loop-k : goal.invariant-loop-k
 invariant-loop-k l =

@@ -5,9 +5,8 @@ use native.Mathlib.Omega.{arith}
 use native.Mathlib.Numerals.{add-one}
 use lib.ListN.{get_or}
 use Rattle.composer.specs.Chord.{past_chord}
-use Rattle.composer.specs.Keys.{bar_to, bar_of, bars_to, keys_of}
+use Rattle.composer.specs.Keys.{KeysLane, bar_to, bar_of, bars_to, keys_of}
 use Rattle.composer.specs.declared.chord.Chord.{Chord}
-use Rattle.composer.specs.declared.keys.KeysLane.{KeysLane}
 use Rattle.composer.proofs.keys.ShellLaws.{tonal_seventh_le, tonal_shell}
 use Rattle.composer.proofs.keys.StrokeLaws.{lane_of, eighth_rest, eighth_shell, eighth_single}
 use borrow.Author.Tests.{not-true, not-false}

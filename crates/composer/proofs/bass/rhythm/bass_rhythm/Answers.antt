@@ -1,8 +1,7 @@
 -- After i turns the first i later steps are drawn, and at most i + 1 sound. Assumes nothing.
 use mathlib.Core.Path.{◌≡◌, refl, sym}
 use native.Mathlib.Omega.{arith}
-use Rattle.composer.specs.Bass.Rhythm.{steps_to, bass_rhythm_of}
-use Rattle.composer.specs.declared.bass.rhythm.Steps.{Steps}
+use Rattle.composer.specs.Bass.Rhythm.{Steps, steps_to, bass_rhythm_of}
 use Rattle.composer.proofs.bass.RhythmLaws.{turn_on}
 use Rattle.laws.proofs.Bools.{bit_few}
 use Rattle.composer.proofs.bass.rhythm.bass_rhythm.Goals as goal

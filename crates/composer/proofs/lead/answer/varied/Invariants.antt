@@ -8,7 +8,7 @@ use Rattle.streams.specs.declared.stream.NoiseStream.{NoiseStream}
 use Rattle.streams.specs.declared.stream.Draw.{Draw}
 use Rattle.composer.specs.Lead.Statement.{empty_from}
 use Rattle.composer.specs.Lead.Answer.{vary_of}
-use Rattle.composer.specs.declared.lead.beats.Beats.{Beats}
+use Rattle.composer.specs.Lead.Beats.{Beats}
 use Rattle.composer.proofs.lead.answer.varied.Given as goal
 
 abbrev pub held_of : List Float → NoiseStream → ℕ → Draw Beats

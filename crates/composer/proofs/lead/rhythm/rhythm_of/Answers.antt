@@ -8,7 +8,7 @@ use lib.ListN.{set}
 use Rattle.laws.specs.Lists.{pad}
 use Rattle.streams.specs.declared.stream.Draw.{Draw}
 use Rattle.composer.specs.Lead.Rhythm.{state_to, statement_of, reply_to, rhythm_of}
-use Rattle.composer.specs.declared.lead.beats.Beats.{Beats}
+use Rattle.composer.specs.Lead.Beats.{Beats}
 use Rattle.composer.proofs.lead.BeatsLaws.{set_short, empty_short}
 use Rattle.composer.proofs.lead.TurnLaws.{whole, state_on, reply_on, fallback_by}
 use Rattle.composer.proofs.lead.rhythm.rhythm_of.Goals as goal

@@ -1,0 +1,19 @@
+// An array of which the first entries count.
+ghost use Rattle.std.specs.Prelude.{◌≡◌, ◌≤◌, take};
+
+// The first n entries are in use; what stands behind them is not read.
+#[derive(Clone, Copy)]
+pub struct Few<T, const N: usize> {
+    pub at: [T; N],
+    pub n: usize,
+}
+
+impl<T, const N: usize> Few<T, N> {
+    // The entries in use.
+    pub fn used(&self) -> &[T]
+        requires { self.now.n ≤ N }
+        ensures { result.now ≡ take self.now.n self.now.at }
+    {
+        &self.at[..self.n]
+    }
+}
