@@ -7,14 +7,14 @@ use crate::stream::NoiseStream;
 
 #[derive(Clone, Copy)]
 pub enum Stage {
-    Form,
-    Harmony,
-    Tempo,
-    Lead,
-    Keys,
-    Drums,
-    Bass,
-    LeadVoice,
+    Form = 1,
+    Harmony = 2,
+    Tempo = 3,
+    Lead = 4,
+    Keys = 5,
+    Drums = 6,
+    Bass = 7,
+    LeadVoice = 8,
 }
 
 impl Stage {
@@ -22,16 +22,7 @@ impl Stage {
     pub fn id(self) -> u64
         ensures { result ≡ id_of self }
     {
-        match self {
-            Stage::Form => 1,
-            Stage::Harmony => 2,
-            Stage::Tempo => 3,
-            Stage::Lead => 4,
-            Stage::Keys => 5,
-            Stage::Drums => 6,
-            Stage::Bass => 7,
-            Stage::LeadVoice => 8,
-        }
+        self as u64
     }
 
     // The stage's stream for the song seed `seed`. The number goes into the mixed seed: in the raw
