@@ -1,11 +1,11 @@
 // The stages of a song. Each draws from a stream of its own, so no stage's draws move another's.
 ghost use Rattle.std.specs.Prelude.{◌≡◌};
-ghost use Rattle.streams.specs.Stage.{id_of, stream_of};
+ghost use Rattle.streams.specs.Stage.{id_of, stage_named, stream_of};
 
 use crate::mix::{splitmix_draw, splitmix64};
 use crate::stream::NoiseStream;
 
-#[derive(Clone, Copy)]
+#[derive(Clone, Copy, Debug, PartialEq, Eq)]
 pub enum Stage {
     Form = 1,
     Harmony = 2,
@@ -15,6 +15,31 @@ pub enum Stage {
     Drums = 6,
     Bass = 7,
     LeadVoice = 8,
+}
+
+// No stage has the number.
+#[derive(Clone, Copy, Debug, PartialEq, Eq)]
+pub struct UnknownStage;
+
+// The stage by its number; a number of none is refused.
+impl TryFrom<u8> for Stage {
+    type Error = UnknownStage;
+
+    ghost try_from_gives = { λ n r. r ≡ stage_named n };
+
+    fn try_from(n: u8) -> Result<Stage, UnknownStage> {
+        match n {
+            1 => Ok(Stage::Form),
+            2 => Ok(Stage::Harmony),
+            3 => Ok(Stage::Tempo),
+            4 => Ok(Stage::Lead),
+            5 => Ok(Stage::Keys),
+            6 => Ok(Stage::Drums),
+            7 => Ok(Stage::Bass),
+            8 => Ok(Stage::LeadVoice),
+            _ => Err(UnknownStage),
+        }
+    }
 }
 
 impl Stage {
