@@ -5,14 +5,14 @@ ghost use Rattle.composer.specs.Note.{role_number_of, kind_number_of};
 // Why a note is what it is: a lead note's role in the melody, and one for all that lies under the lead.
 #[derive(Clone, Copy, PartialEq, Eq, Debug)]
 pub enum NoteRole {
-    Quote,
-    Close,
-    Peak,
-    Resolve,
-    ChordTone,
-    Passing,
+    Quote = 0,
+    Close = 1,
+    Peak = 2,
+    Resolve = 3,
+    ChordTone = 4,
+    Passing = 5,
     // a note of the keys or the bass
-    Backing,
+    Backing = 6,
 }
 
 impl NoteRole {
@@ -20,15 +20,7 @@ impl NoteRole {
     pub fn number(self) -> u8
         ensures { result ≡ role_number_of self }
     {
-        match self {
-            NoteRole::Quote => 0,
-            NoteRole::Close => 1,
-            NoteRole::Peak => 2,
-            NoteRole::Resolve => 3,
-            NoteRole::ChordTone => 4,
-            NoteRole::Passing => 5,
-            NoteRole::Backing => 6,
-        }
+        self as u8
     }
 }
 
@@ -48,10 +40,10 @@ pub struct Note {
 
 #[derive(Clone, Copy, PartialEq, Eq, Debug)]
 pub enum DrumKind {
-    Kick,
-    Snare,
-    Hat,
-    OpenHat,
+    Kick = 0,
+    Snare = 1,
+    Hat = 2,
+    OpenHat = 3,
 }
 
 impl DrumKind {
@@ -59,12 +51,7 @@ impl DrumKind {
     pub fn number(self) -> u8
         ensures { result ≡ kind_number_of self }
     {
-        match self {
-            DrumKind::Kick => 0,
-            DrumKind::Snare => 1,
-            DrumKind::Hat => 2,
-            DrumKind::OpenHat => 3,
-        }
+        self as u8
     }
 }
 

@@ -8,10 +8,10 @@ use streams::stream::{Draw, NoiseStream};
 
 #[derive(Clone, Copy, PartialEq, Eq, Debug)]
 pub enum LeadVoice {
-    EpVel,
-    Pluck,
-    Kalimba,
-    Vibraphone,
+    EpVel = 0,
+    Pluck = 1,
+    Kalimba = 2,
+    Vibraphone = 3,
 }
 
 // The voices of each style and their weights.
@@ -28,12 +28,7 @@ impl LeadVoice {
     pub fn number(self) -> u8
         ensures { result ≡ voice_number_of self }
     {
-        match self {
-            LeadVoice::EpVel => 0,
-            LeadVoice::Pluck => 1,
-            LeadVoice::Kalimba => 2,
-            LeadVoice::Vibraphone => 3,
-        }
+        self as u8
     }
 }
 
