@@ -1,6 +1,8 @@
 // What a lane plays: notes and drum hits. Each has the loop bar that it was drawn for.
 ghost use Rattle.std.specs.Prelude.{◌≡◌};
-ghost use Rattle.composer.specs.Note.{role_number_of, kind_number_of};
+ghost use Rattle.composer.specs.Note.{role_number_of, role_named, kind_number_of, kind_named};
+
+use crate::refusal::Refusal;
 
 // Why a note is what it is: a lead note's role in the melody, and one for all that lies under the lead.
 #[derive(Clone, Copy, PartialEq, Eq, Debug)]
@@ -21,6 +23,26 @@ impl NoteRole {
         ensures { result ≡ role_number_of self }
     {
         self as u8
+    }
+}
+
+// The role by its number; a number of none is refused.
+impl TryFrom<u8> for NoteRole {
+    type Error = Refusal;
+
+    ghost try_from_gives = { λ n r. r ≡ role_named n };
+
+    fn try_from(n: u8) -> Result<NoteRole, Refusal> {
+        match n {
+            0 => Ok(NoteRole::Quote),
+            1 => Ok(NoteRole::Close),
+            2 => Ok(NoteRole::Peak),
+            3 => Ok(NoteRole::Resolve),
+            4 => Ok(NoteRole::ChordTone),
+            5 => Ok(NoteRole::Passing),
+            6 => Ok(NoteRole::Backing),
+            _ => Err(Refusal::SheetValues),
+        }
     }
 }
 
@@ -52,6 +74,23 @@ impl DrumKind {
         ensures { result ≡ kind_number_of self }
     {
         self as u8
+    }
+}
+
+// The drum by its number; a number of none is refused.
+impl TryFrom<u8> for DrumKind {
+    type Error = Refusal;
+
+    ghost try_from_gives = { λ n r. r ≡ kind_named n };
+
+    fn try_from(n: u8) -> Result<DrumKind, Refusal> {
+        match n {
+            0 => Ok(DrumKind::Kick),
+            1 => Ok(DrumKind::Snare),
+            2 => Ok(DrumKind::Hat),
+            3 => Ok(DrumKind::OpenHat),
+            _ => Err(Refusal::SheetValues),
+        }
     }
 }
 
