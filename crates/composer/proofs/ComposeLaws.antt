@@ -15,7 +15,7 @@ use Rattle.streams.specs.declared.stream.NoiseStream.{NoiseStream}
 use Rattle.streams.specs.declared.stream.Draw.{Draw}
 use Rattle.composer.specs.Bass.{bass_of}
 use Rattle.composer.specs.Chord.{past_chord}
-use Rattle.composer.specs.Compose.{beat_s_of, song_by, composed_of, style_by, compose_of}
+use Rattle.composer.specs.Compose.{beat_s_of, song_by, composed_of, compose_of}
 use Rattle.composer.specs.Drums.{drums_of}
 use Rattle.composer.specs.Early.{EarlyPromise}
 use Rattle.composer.specs.Harmony.{pentatonic, colour, class_in, classes_of, melody_pcs_of, harmony_of, Tonal}
@@ -75,11 +75,6 @@ pub composed_by : (style : Style) (seed : ℕ) {hs ts ls ks ds bs vs : NoiseStre
     → song_by style h t l k d b v ≡ composed_of style seed
 unfolding composed_of
 composed_by style seed hs h ts t beat ls l ks k ds d bs b vs v = rw (v, vs, b, bs, d, ds, k, ks, l, ls, beat, t, ts, h, hs)
-
-pub known_style : (style seed : ℕ) → style < 2 → compose_of style seed ≡ Ok (composed_of (style_by style) seed)
-known_style zero seed h = refl
-known_style (suc zero) seed h = refl
-known_style (suc (suc n)) seed h = absurd (omega arith)
 
 -- a style's number gives its song
 pub composed_is : (style : Style) (seed : ℕ) → compose_of (style_number_of style) seed ≡ Ok (composed_of style seed)

@@ -5,6 +5,7 @@ pub mod ComposeLaws
 pub mod DrumsLaws
 pub mod HarmonyLaws
 pub mod KicksLaws
+pub mod NamedLaws
 pub mod PlainLaws
 pub mod RangeLaws
 pub mod RefusalLaws

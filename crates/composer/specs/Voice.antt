@@ -1,9 +1,10 @@
 -- The instrument that sings the lead. Definitions only.
-use Rattle.std.specs.Prelude.{List, [], ◌∷◌, ℕ, get_or, Float}
+use Rattle.std.specs.Prelude.{List, [], ◌∷◌, ℕ, get_or, Float, Result, Ok, Err}
 use Rattle.streams.specs.Stream.{after, unit_at}
 use Rattle.streams.specs.declared.stream.NoiseStream.{NoiseStream}
 use Rattle.streams.specs.declared.stream.Draw.{Draw}
 use Rattle.composer.specs.Band.{band_of}
+use Rattle.composer.specs.declared.refusal.Refusal.{Refusal}
 use Rattle.composer.specs.declared.style.Style.{Style}
 use Rattle.composer.specs.declared.voice.LeadVoice.{LeadVoice}
 use Rattle.composer.specs.declared.voice.LeadVoice.TheVariants.{EpVel, Pluck, Kalimba, Vibraphone}
@@ -14,6 +15,10 @@ voice_number_of EpVel = 0
 voice_number_of Pluck = 1
 voice_number_of Kalimba = 2
 voice_number_of Vibraphone = 3
+
+-- the voice of a number; there are four
+abbrev pub voice_named : ℕ → Result LeadVoice Refusal
+voice_named n = get_or (Ok EpVel ∷ Ok Pluck ∷ Ok Kalimba ∷ Ok Vibraphone ∷ []) n (Err Refusal.SheetValues)
 
 -- the voices of each style and their weights
 abbrev pub voices_of : Style → List LeadVoice

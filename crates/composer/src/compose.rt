@@ -117,11 +117,7 @@ pub fn no_score() -> Score
 pub fn style_by(number: u8) -> Style
     ensures { result ≡ style_by number }
 {
-    if number == 0 {
-        Style::Hiphop
-    } else {
-        Style::Sleep
-    }
+    Style::try_from(number).unwrap_or(Style::Sleep)
 }
 
 // The song of a seed in style 0 (hiphop) or 1 (sleep). Any other style is refused with 1.

@@ -1,18 +1,20 @@
 // What a lane plays: notes and drum hits. Each has the loop bar that it was drawn for.
 ghost use Rattle.std.specs.Prelude.{◌≡◌};
-ghost use Rattle.composer.specs.Note.{role_number_of, kind_number_of};
+ghost use Rattle.composer.specs.Note.{role_number_of, role_named, kind_number_of, kind_named};
+
+use crate::refusal::Refusal;
 
 // Why a note is what it is: a lead note's role in the melody, and one for all that lies under the lead.
 #[derive(Clone, Copy, PartialEq, Eq, Debug)]
 pub enum NoteRole {
-    Quote,
-    Close,
-    Peak,
-    Resolve,
-    ChordTone,
-    Passing,
+    Quote = 0,
+    Close = 1,
+    Peak = 2,
+    Resolve = 3,
+    ChordTone = 4,
+    Passing = 5,
     // a note of the keys or the bass
-    Backing,
+    Backing = 6,
 }
 
 impl NoteRole {
@@ -20,14 +22,26 @@ impl NoteRole {
     pub fn number(self) -> u8
         ensures { result ≡ role_number_of self }
     {
-        match self {
-            NoteRole::Quote => 0,
-            NoteRole::Close => 1,
-            NoteRole::Peak => 2,
-            NoteRole::Resolve => 3,
-            NoteRole::ChordTone => 4,
-            NoteRole::Passing => 5,
-            NoteRole::Backing => 6,
+        self as u8
+    }
+}
+
+// The role by its number; a number of none is refused.
+impl TryFrom<u8> for NoteRole {
+    type Error = Refusal;
+
+    ghost try_from_gives = { λ n r. r ≡ role_named n };
+
+    fn try_from(n: u8) -> Result<NoteRole, Refusal> {
+        match n {
+            0 => Ok(NoteRole::Quote),
+            1 => Ok(NoteRole::Close),
+            2 => Ok(NoteRole::Peak),
+            3 => Ok(NoteRole::Resolve),
+            4 => Ok(NoteRole::ChordTone),
+            5 => Ok(NoteRole::Passing),
+            6 => Ok(NoteRole::Backing),
+            _ => Err(Refusal::SheetValues),
         }
     }
 }
@@ -48,10 +62,10 @@ pub struct Note {
 
 #[derive(Clone, Copy, PartialEq, Eq, Debug)]
 pub enum DrumKind {
-    Kick,
-    Snare,
-    Hat,
-    OpenHat,
+    Kick = 0,
+    Snare = 1,
+    Hat = 2,
+    OpenHat = 3,
 }
 
 impl DrumKind {
@@ -59,11 +73,23 @@ impl DrumKind {
     pub fn number(self) -> u8
         ensures { result ≡ kind_number_of self }
     {
-        match self {
-            DrumKind::Kick => 0,
-            DrumKind::Snare => 1,
-            DrumKind::Hat => 2,
-            DrumKind::OpenHat => 3,
+        self as u8
+    }
+}
+
+// The drum by its number; a number of none is refused.
+impl TryFrom<u8> for DrumKind {
+    type Error = Refusal;
+
+    ghost try_from_gives = { λ n r. r ≡ kind_named n };
+
+    fn try_from(n: u8) -> Result<DrumKind, Refusal> {
+        match n {
+            0 => Ok(DrumKind::Kick),
+            1 => Ok(DrumKind::Snare),
+            2 => Ok(DrumKind::Hat),
+            3 => Ok(DrumKind::OpenHat),
+            _ => Err(Refusal::SheetValues),
         }
     }
 }

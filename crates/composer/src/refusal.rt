@@ -4,18 +4,18 @@ ghost use Rattle.composer.specs.Refusal.{number_of};
 
 #[derive(Clone, Copy, Debug, PartialEq, Eq)]
 pub enum Refusal {
-    UnknownStyle,
-    ShortBuffer,
-    NoSuchBar,
-    Malformed,
-    WrongLength,
-    HallCount,
-    SheetFields,
-    SheetValues,
-    OtherSong,
-    LessonSpan,
-    LessonWish,
-    NoSeed,
+    UnknownStyle = 1,
+    ShortBuffer = 2,
+    NoSuchBar = 3,
+    Malformed = 4,
+    WrongLength = 5,
+    HallCount = 6,
+    SheetFields = 7,
+    SheetValues = 8,
+    OtherSong = 9,
+    LessonSpan = 10,
+    LessonWish = 11,
+    NoSeed = 12,
 }
 
 impl Refusal {
@@ -23,19 +23,6 @@ impl Refusal {
     pub fn number(self) -> u8
         ensures { result ≡ number_of self }
     {
-        match self {
-            Refusal::UnknownStyle => 1,
-            Refusal::ShortBuffer => 2,
-            Refusal::NoSuchBar => 3,
-            Refusal::Malformed => 4,
-            Refusal::WrongLength => 5,
-            Refusal::HallCount => 6,
-            Refusal::SheetFields => 7,
-            Refusal::SheetValues => 8,
-            Refusal::OtherSong => 9,
-            Refusal::LessonSpan => 10,
-            Refusal::LessonWish => 11,
-            Refusal::NoSeed => 12,
-        }
+        self as u8
     }
 }

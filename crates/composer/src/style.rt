@@ -9,8 +9,8 @@ use streams::stream::{Draw, NoiseStream};
 
 #[derive(Clone, Copy, Debug, PartialEq, Eq)]
 pub enum Style {
-    Hiphop,
-    Sleep,
+    Hiphop = 0,
+    Sleep = 1,
 }
 
 impl Style {
@@ -18,10 +18,7 @@ impl Style {
     pub fn number(self) -> u8
         ensures { result ≡ style_number_of self }
     {
-        match self {
-            Style::Hiphop => 0,
-            Style::Sleep => 1,
-        }
+        self as u8
     }
 }
 

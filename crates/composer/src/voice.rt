@@ -1,17 +1,18 @@
 // The instrument that sings the lead.
 ghost use Rattle.std.specs.Prelude.{◌≡◌};
-ghost use Rattle.composer.specs.Voice.{voice_number_of, voice_by, lead_voice_of};
+ghost use Rattle.composer.specs.Voice.{voice_number_of, voice_named, voice_by, lead_voice_of};
 
 use crate::band::band;
+use crate::refusal::Refusal;
 use crate::style::Style;
 use streams::stream::{Draw, NoiseStream};
 
 #[derive(Clone, Copy, PartialEq, Eq, Debug)]
 pub enum LeadVoice {
-    EpVel,
-    Pluck,
-    Kalimba,
-    Vibraphone,
+    EpVel = 0,
+    Pluck = 1,
+    Kalimba = 2,
+    Vibraphone = 3,
 }
 
 // The voices of each style and their weights.
@@ -28,11 +29,23 @@ impl LeadVoice {
     pub fn number(self) -> u8
         ensures { result ≡ voice_number_of self }
     {
-        match self {
-            LeadVoice::EpVel => 0,
-            LeadVoice::Pluck => 1,
-            LeadVoice::Kalimba => 2,
-            LeadVoice::Vibraphone => 3,
+        self as u8
+    }
+}
+
+// The voice by its number; a number of none is refused.
+impl TryFrom<u8> for LeadVoice {
+    type Error = Refusal;
+
+    ghost try_from_gives = { λ n r. r ≡ voice_named n };
+
+    fn try_from(n: u8) -> Result<LeadVoice, Refusal> {
+        match n {
+            0 => Ok(LeadVoice::EpVel),
+            1 => Ok(LeadVoice::Pluck),
+            2 => Ok(LeadVoice::Kalimba),
+            3 => Ok(LeadVoice::Vibraphone),
+            _ => Err(Refusal::SheetValues),
         }
     }
 }

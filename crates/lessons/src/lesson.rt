@@ -2,10 +2,9 @@
 ghost use Rattle.std.specs.Prelude.{◌≡◌, ◌+◌, ◌^◌, ◌≤◌};
 ghost use Rattle.composer.specs.Refusal.{answered};
 ghost use Rattle.lessons.specs.Inner.Search.{is_suited, SuitsIn};
-ghost use Rattle.lessons.specs.Lesson.{is_no_span, lesson_checked, Found, LessonAllowed};
+ghost use Rattle.lessons.specs.Lesson.{is_no_span, Found, LessonAllowed};
 
 use crate::wishes::Wishes;
-use composer::compose::style_by;
 use composer::refusal::Refusal;
 use composer::style::Style;
 use composer::traits::traits_of;
@@ -48,29 +47,20 @@ fn is_no_span(start: u64, count: u64) -> bool
     u64::MAX - start < count - 1
 }
 
-// What is refused before any seed is looked at.
-fn checked(style: u8, start: u64, count: u64, wishes: Wishes) -> Result<(), Refusal>
-    ensures { result ≡ lesson_checked style start count wishes }
+// Some seed among the `count` seeds from `start` on whose song, in style 0 or 1, has key, tempo and voice as wished;
+// which of them is left to this program. Any other style is refused with 1, then a count outside 1 to 65,536 or a span
+// past the largest seed with 10, then a wish outside its codes with 11, and then with 12 just where no seed of the span
+// has all three.
+#[tactic(auto, unfolding(crate::specs::Lesson::is_no_span))]
+pub fn lesson(style: u8, start: u64, count: u64, wishes: Wishes) -> Result<u64, Refusal>
+    ensures { LessonAllowed style start count wishes result }
 {
-    if style > 1 {
-        return Err(Refusal::UnknownStyle);
-    }
+    let known = Style::try_from(style)?;
     if is_no_span(start, count) {
         return Err(Refusal::LessonSpan);
     }
     if wishes.is_unknown() {
         return Err(Refusal::LessonWish);
     }
-    Ok(())
-}
-
-// Some seed among the `count` seeds from `start` on whose song, in style 0 or 1, has key, tempo and voice as wished;
-// which of them is left to this program. Any other style is refused with 1, then a count outside 1 to 65,536 or a span
-// past the largest seed with 10, then a wish outside its codes with 11, and then with 12 just where no seed of the span
-// has all three.
-pub fn lesson(style: u8, start: u64, count: u64, wishes: Wishes) -> Result<u64, Refusal>
-    ensures { LessonAllowed style start count wishes result }
-{
-    checked(style, start, count, wishes)?;
-    search(style_by(style), wishes, start, count)
+    search(known, wishes, start, count)
 }

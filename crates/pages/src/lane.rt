@@ -17,10 +17,10 @@ use composer::score::Score;
 
 #[derive(Clone, Copy)]
 pub enum Lane {
-    Lead,
-    Keys,
-    Hits,
-    Bass,
+    Lead = 5,
+    Keys = 6,
+    Hits = 7,
+    Bass = 8,
 }
 
 // The events of a lane from `from` on, before `to`.
@@ -35,12 +35,7 @@ impl Lane {
     pub fn tag(self) -> u8
         ensures { result ≡ tag_of self }
     {
-        match self {
-            Lane::Lead => 5,
-            Lane::Keys => 6,
-            Lane::Hits => 7,
-            Lane::Bass => 8,
-        }
+        self as u8
     }
 
     // The bytes of one event in an edition.

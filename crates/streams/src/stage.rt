@@ -1,20 +1,45 @@
 // The stages of a song. Each draws from a stream of its own, so no stage's draws move another's.
 ghost use Rattle.std.specs.Prelude.{◌≡◌};
-ghost use Rattle.streams.specs.Stage.{id_of, stream_of};
+ghost use Rattle.streams.specs.Stage.{id_of, stage_named, stream_of};
 
 use crate::mix::{splitmix_draw, splitmix64};
 use crate::stream::NoiseStream;
 
-#[derive(Clone, Copy)]
+#[derive(Clone, Copy, Debug, PartialEq, Eq)]
 pub enum Stage {
-    Form,
-    Harmony,
-    Tempo,
-    Lead,
-    Keys,
-    Drums,
-    Bass,
-    LeadVoice,
+    Form = 1,
+    Harmony = 2,
+    Tempo = 3,
+    Lead = 4,
+    Keys = 5,
+    Drums = 6,
+    Bass = 7,
+    LeadVoice = 8,
+}
+
+// No stage has the number.
+#[derive(Clone, Copy, Debug, PartialEq, Eq)]
+pub struct UnknownStage;
+
+// The stage by its number; a number of none is refused.
+impl TryFrom<u8> for Stage {
+    type Error = UnknownStage;
+
+    ghost try_from_gives = { λ n r. r ≡ stage_named n };
+
+    fn try_from(n: u8) -> Result<Stage, UnknownStage> {
+        match n {
+            1 => Ok(Stage::Form),
+            2 => Ok(Stage::Harmony),
+            3 => Ok(Stage::Tempo),
+            4 => Ok(Stage::Lead),
+            5 => Ok(Stage::Keys),
+            6 => Ok(Stage::Drums),
+            7 => Ok(Stage::Bass),
+            8 => Ok(Stage::LeadVoice),
+            _ => Err(UnknownStage),
+        }
+    }
 }
 
 impl Stage {
@@ -22,16 +47,7 @@ impl Stage {
     pub fn id(self) -> u64
         ensures { result ≡ id_of self }
     {
-        match self {
-            Stage::Form => 1,
-            Stage::Harmony => 2,
-            Stage::Tempo => 3,
-            Stage::Lead => 4,
-            Stage::Keys => 5,
-            Stage::Drums => 6,
-            Stage::Bass => 7,
-            Stage::LeadVoice => 8,
-        }
+        self as u64
     }
 
     // The stage's stream for the song seed `seed`. The number goes into the mixed seed: in the raw

@@ -5,15 +5,15 @@ ghost use Rattle.composer.specs.Form.Ends.{count_of, edge_code_of, end_bars_of, 
 // The bars of an intro or outro that has some.
 #[derive(Clone, Copy, PartialEq, Eq, Debug)]
 pub enum Bars {
-    Four,
-    Eight,
+    Four = 4,
+    Eight = 8,
 }
 
 // How the music's level or colour moves over an intro or outro.
 #[derive(Clone, Copy, PartialEq, Eq, Debug)]
 pub enum Edge {
-    Fade,
-    Filter,
+    Fade = 2,
+    Filter = 3,
 }
 
 // An intro, or an outro that does not ring out.
@@ -36,10 +36,7 @@ impl Bars {
     pub fn count(self) -> u8
         ensures { result ≡ count_of self }
     {
-        match self {
-            Bars::Four => 4,
-            Bars::Eight => 8,
-        }
+        self as u8
     }
 }
 
@@ -48,10 +45,7 @@ impl Edge {
     pub fn code(self) -> u8
         ensures { result ≡ edge_code_of self }
     {
-        match self {
-            Edge::Fade => 2,
-            Edge::Filter => 3,
-        }
+        self as u8
     }
 }
 

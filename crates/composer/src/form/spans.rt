@@ -7,9 +7,9 @@ use crate::form::song::arrange;
 
 #[derive(Clone, Copy, PartialEq, Eq, Debug)]
 pub enum SpansAnswer {
-    NoneMutes,
-    NoneMoves,
-    Spans,
+    NoneMutes = 1,
+    NoneMoves = 2,
+    Spans = 0,
 }
 
 impl SpansAnswer {
@@ -17,11 +17,7 @@ impl SpansAnswer {
     pub fn number(self) -> u8
         ensures { result ≡ spans_number_of self }
     {
-        match self {
-            SpansAnswer::NoneMutes => 1,
-            SpansAnswer::NoneMoves => 2,
-            SpansAnswer::Spans => 0,
-        }
+        self as u8
     }
 }
 

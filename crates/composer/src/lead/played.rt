@@ -36,7 +36,7 @@ fn play(x: LeadNote, beat_s: f32, dur: f32, s: NoiseStream) -> Draw<Note>
     let at = LEAD_LAG.after(on_grid(x, beat_s), s);
     LEAD_ACCENT.draw(at.stream).map(|accent| Note {
         bar: x.bar,
-        role: x.role.noted(),
+        role: x.role.into(),
         spare: 0,
         at: at.value,
         midi: x.note,

@@ -34,12 +34,12 @@ pub enum Role {
     Passing,
 }
 
-impl Role {
-    // The same role as a note of the score has it.
-    pub fn noted(self) -> NoteRole
-        ensures { result ≡ noted_of self }
-    {
-        match self {
+// The same role as a note of the score has it.
+impl From<Role> for NoteRole {
+    ghost from_gives = { λ r n. n ≡ noted_of r };
+
+    fn from(r: Role) -> NoteRole {
+        match r {
             Role::Quote => NoteRole::Quote,
             Role::Close => NoteRole::Close,
             Role::Peak => NoteRole::Peak,
