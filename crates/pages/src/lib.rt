@@ -3,6 +3,7 @@
 
 pub mod answer;
 pub mod bar;
+pub mod contents;
 pub mod edition;
 pub mod event;
 pub mod get;

@@ -2,7 +2,7 @@
 use mathlib.Core.Path.{refl}
 use Rattle.laws.proofs.Writes.{wrote_then, wrote_as}
 use Rattle.pages.specs.Bytes.{field}
-use Rattle.pages.proofs.sheet.put_plays.Goals as goal
+use Rattle.pages.proofs.contents.Contents.put_plays.Goals as goal
 
 pub returns : goal.returns
 unfolding field

@@ -3,7 +3,7 @@ use mathlib.Core.Path.{refl}
 use native.Mathlib.Omega.{arith}
 use Rattle.laws.proofs.Writes.{wrote_then, wrote_as}
 use Rattle.pages.specs.Sheet.{lanes_bytes}
-use Rattle.pages.proofs.sheet.put_lanes.Goals as goal
+use Rattle.pages.proofs.contents.Contents.put_lanes.Goals as goal
 
 pub returns : goal.returns
 unfolding lanes_bytes

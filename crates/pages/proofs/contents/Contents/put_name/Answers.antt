@@ -1,7 +1,7 @@
 -- The head, then the three parts. Assumes nothing.
 use Rattle.laws.proofs.Writes.{wrote_then}
 use Rattle.pages.specs.Bytes.{field}
-use Rattle.pages.proofs.sheet.put_name.Goals as goal
+use Rattle.pages.proofs.contents.Contents.put_name.Goals as goal
 
 pub returns : goal.returns
 unfolding field

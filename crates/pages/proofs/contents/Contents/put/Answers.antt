@@ -3,7 +3,7 @@ use mathlib.Core.Path.{refl}
 use native.Mathlib.Omega.{arith}
 use Rattle.laws.proofs.Writes.{wrote_then, wrote_as}
 use Rattle.pages.specs.Sheet.{sheet_bytes}
-use Rattle.pages.proofs.sheet.put_sheet.Goals as goal
+use Rattle.pages.proofs.contents.Contents.put.Goals as goal
 
 pub returns : goal.returns
 unfolding sheet_bytes

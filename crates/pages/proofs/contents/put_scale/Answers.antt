@@ -6,7 +6,7 @@ use lib.Seq.{length-take-le}
 use Rattle.laws.proofs.Writes.{wrote_then, wrote_as}
 use Rattle.pages.specs.Bytes.{field}
 use borrow.Author.Rules.{rules}
-use Rattle.pages.proofs.sheet.put_scale.Goals as goal
+use Rattle.pages.proofs.contents.put_scale.Goals as goal
 
 pub returns : goal.returns
 unfolding field

@@ -8,7 +8,7 @@ use Rattle.laws.proofs.Writes.{wrote_none, wrote_then, wrote_as}
 use Rattle.laws.proofs.Joins.{joined_on}
 use Rattle.laws.proofs.Rows.{row_long}
 use borrow.Author.Rules.{rules}
-use Rattle.pages.proofs.sheet.put_eight.Goals as goal
+use Rattle.pages.proofs.contents.put_eight.Goals as goal
 
 pub loop-notes-init : goal.loop-notes-init
 unfolding joined
