@@ -10,6 +10,7 @@ pub mod get;
 pub mod hits;
 pub mod lane;
 pub mod page;
+pub mod paged;
 pub mod put;
 pub mod reply;
 pub mod sheet;
