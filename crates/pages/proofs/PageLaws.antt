@@ -10,7 +10,7 @@ use lib.Dec.{leb}
 use lib.ListN.{length, get_or, take, length-append, get_or-map}
 use Rattle.laws.specs.Lists.{joined}
 use Rattle.composer.specs.Chord.{past_chord}
-use Rattle.composer.specs.Compose.{composed_of, compose_of}
+use Rattle.composer.specs.Compose.{composed_of}
 use Rattle.composer.specs.Form.{loop_bar_of}
 use Rattle.composer.specs.Form.Ask.{sound_of, plays_of}
 use Rattle.composer.specs.Form.Plays.{silent}
@@ -19,7 +19,7 @@ use Rattle.composer.specs.Form.Song.{arrange_of}
 use Rattle.composer.specs.Harmony.{notes_in, notes_of}
 use Rattle.composer.specs.Note.{note_bar}
 use Rattle.composer.specs.Promise.{LanesPromise, BarsPromise}
-use Rattle.composer.specs.Refusal.{Gives, answered}
+use Rattle.composer.specs.Refusal.{Gives}
 use Rattle.composer.specs.Style.{style_number_of}
 use Rattle.composer.specs.declared.form.Form.{Form}
 use Rattle.composer.specs.declared.form.plays.Plays.{Plays}
@@ -43,7 +43,6 @@ use Rattle.pages.specs.declared.hits.HeardRuns.{HeardRuns}
 use Rattle.pages.specs.declared.edition.Edition.{Edition}
 use Rattle.pages.specs.declared.lane.Lane.{Lane}
 use Rattle.pages.specs.declared.page.Runs.{Runs}
-use Rattle.pages.proofs.AnswerLaws.{asked_most}
 use Rattle.pages.proofs.BytesLaws.{length_field, edition_length}
 use Rattle.pages.proofs.HitsLaws.{hits_length, runs_hits, page_hits_most}
 use Rattle.pages.proofs.LaneLaws.{note_bar_lem, run_drawn, run_length, drawn_count, shown_most, shown_size}

@@ -31,7 +31,6 @@ use Rattle.pages.specs.Sheet.{song_bytes, lane_field, lanes_size, lanes_bytes, f
 use Rattle.pages.specs.Writable.{SizedLanes}
 use Rattle.pages.specs.declared.edition.Edition.{Edition}
 use Rattle.pages.specs.declared.lane.Lane.{Lane}
-use Rattle.pages.proofs.AnswerLaws.{asked_most}
 use Rattle.pages.proofs.BytesLaws.{length_field, edition_length}
 use Rattle.pages.proofs.LaneLaws.{widths, length_events}
 use Rattle.pages.proofs.WritableLaws.{sized}

@@ -1,7 +1,7 @@
 -- What a program writes for what a call has to write: its bytes, or one field with the number of its refusal.
 -- Definitions only.
 use Rattle.std.specs.Prelude.{cond, List, [], ◌∷◌, ◌++◌, ℕ, ltb, length, drop, Result, Ok, Err}
-use Rattle.composer.specs.Refusal.{number_of, answered}
+use Rattle.composer.specs.Refusal.{number_of}
 use Rattle.composer.specs.declared.refusal.Refusal.{Refusal}
 use Rattle.pages.specs.Answer.{Asked, Writes, Declines}
 use Rattle.pages.specs.Bytes.{field}

@@ -6,10 +6,10 @@ use composer::form::Form;
 use composer::form::ask::plays;
 
 // Whether the song has a bar `bar` and it plays drums.
-pub(crate) fn plays_drums(f: Form, bar: u64) -> bool
-    ensures { result ≡ plays_drums f bar }
+pub(crate) fn plays_drums(f: &Form, bar: u64) -> bool
+    ensures { result ≡ plays_drums f.now bar }
 {
-    match plays(&f, bar as usize) {
+    match plays(f, bar as usize) {
         Ok(p) => p.drums,
         Err(_) => false,
     }

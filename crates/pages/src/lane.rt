@@ -4,7 +4,6 @@ ghost use Rattle.std.specs.List.{All};
 ghost use Rattle.std.specs.List.Sorted.{IsNonDecreasingBy};
 ghost use Rattle.laws.specs.Lists.{joined};
 ghost use Rattle.laws.specs.Writes.{Wrote};
-ghost use Rattle.composer.specs.Promise.{LanesPromise};
 ghost use Rattle.pages.specs.Bytes.{field};
 ghost use Rattle.pages.specs.Lane.{tag_of, width_of, count_in, events_of, run_of, InLane, bars_of, bar_run, run_in};
 ghost use Rattle.pages.specs.Writable.{Writable};
@@ -12,6 +11,7 @@ ghost use Rattle.pages.specs.declared.lane.Lane.{Lane};
 
 use crate::edition::Edition;
 use crate::event::Event;
+use crate::paged::PagedSong;
 use crate::put::put_head;
 use composer::score::Score;
 
@@ -124,28 +124,29 @@ fn run_of_bar<E: Event>(events: &[E], bar: u8) -> Run
     }
 }
 
-fn bar_run(s: &Score, lane: Lane, bar: u8) -> Run
-    requires { LanesPromise s.now }
-    ensures { result ≡ bar_run bar (bars_of s.now lane) }
-{
-    match lane {
-        Lane::Lead => run_of_bar(&s.lead[..s.lead_count], bar),
-        Lane::Keys => run_of_bar(&s.keys[..s.keys_count], bar),
-        Lane::Hits => run_of_bar(&s.hits[..s.hit_count], bar),
-        Lane::Bass => run_of_bar(&s.bass[..s.bass_count], bar),
+impl<'a> PagedSong<'a> {
+    fn bar_run(&self, lane: Lane, bar: u8) -> Run
+        ensures { result ≡ bar_run bar (bars_of self.now.score.now lane) }
+    {
+        let s = self.score;
+        match lane {
+            Lane::Lead => run_of_bar(&s.lead[..s.lead_count], bar),
+            Lane::Keys => run_of_bar(&s.keys[..s.keys_count], bar),
+            Lane::Hits => run_of_bar(&s.hits[..s.hit_count], bar),
+            Lane::Bass => run_of_bar(&s.bass[..s.bass_count], bar),
+        }
     }
-}
 
-// The run of the events that a bar shows; a silent layer's is empty.
-#[tactic(auto, unfolding(crate::specs::Lane::run_in))]
-pub(crate) fn run_in(s: &Score, lane: Lane, on: bool, bar: u8) -> Run
-    requires { LanesPromise s.now }
-    ensures value { result ≡ run_in s.now lane on bar }
-    ensures in_lane { InLane s.now lane result }
-{
-    if on {
-        bar_run(s, lane, bar)
-    } else {
-        Run { from: 0, to: 0 }
+    // The run of the events that a bar shows; a silent layer's is empty.
+    #[tactic(auto, unfolding(crate::specs::Lane::run_in))]
+    pub(crate) fn run_in(&self, lane: Lane, on: bool, bar: u8) -> Run
+        ensures value { result ≡ run_in self.now.score.now lane on bar }
+        ensures in_lane { InLane self.now.score.now lane result }
+    {
+        if on {
+            self.bar_run(lane, bar)
+        } else {
+            Run { from: 0, to: 0 }
+        }
     }
 }

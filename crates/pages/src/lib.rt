@@ -3,12 +3,14 @@
 
 pub mod answer;
 pub mod bar;
+pub mod contents;
 pub mod edition;
 pub mod event;
 pub mod get;
 pub mod hits;
 pub mod lane;
 pub mod page;
+pub mod paged;
 pub mod put;
 pub mod reply;
 pub mod sheet;

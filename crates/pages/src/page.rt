@@ -1,18 +1,18 @@
 // The bar page: what one bar of the song shows, in edition 2.
-ghost use Rattle.std.specs.Prelude.{◌≡◌, ◌+◌, ◌<◌, ◌≤◌, length};
+ghost use Rattle.std.specs.Prelude.{◌≡◌, ◌+◌, ◌*◌, ◌<◌, ◌≤◌, length};
 ghost use Rattle.laws.specs.Writes.{Wrote};
 ghost use Rattle.composer.specs.Form.{loop_bar_of};
-ghost use Rattle.composer.specs.Promise.{LanesPromise};
 ghost use Rattle.pages.specs.Answer.{Writes, written_of, buffer_of};
-ghost use Rattle.pages.specs.Hits.{page_hits};
+ghost use Rattle.pages.specs.Hits.{page_hits, hits_field};
 ghost use Rattle.pages.specs.Inner.Hits.{run_hits, HitsWithin};
 ghost use Rattle.pages.specs.Lane.{run_size, Held};
 ghost use Rattle.pages.specs.Page.{Chorded, chord_size, chord_field, runs_in, RunsWithin, runs_size, runs_bytes, page_bytes, page_of, page_asked};
 ghost use Rattle.pages.specs.Writable.{Writable, Paged};
 
 use crate::edition::{Edition, put_edition};
-use crate::hits::{HeardRuns, heard_runs, put_page_hits};
-use crate::lane::{Lane, Run, put_run, run_in};
+use crate::hits::{HeardRuns, Part, put_part};
+use crate::lane::{Lane, Run, put_run};
+use crate::paged::PagedSong;
 use crate::put::{put_bytes, put_head};
 use composer::compose::compose;
 use composer::form::Form;
@@ -30,40 +30,12 @@ fn chord_size(on: bool) -> usize
     if on { 4 } else { 0 }
 }
 
-// 0x03: the bar's chord, or nothing where the pad is silent.
-fn put_chord(buf: &mut [u8], at: usize, s: &Score, on: bool, bar: u8) -> usize
-    requires chorded { Chorded s.now }
-    requires bar_bound { bar < 8 }
-    requires room { at + (3 + chord_size on) ≤ length buf.old }
-    ensures { Wrote buf.old buf.new at result (3 + chord_size on) (chord_field s.now on bar) }
-{
-    if !on {
-        return put_head(buf, at, 0x03, 0);
-    }
-    let chords = bar_chords(s.bar_chords);
-    let a = put_head(buf, at, 0x03, 4);
-    put_bytes(buf, a, &chords[bar as usize])
-}
-
 // Where the notes of one loop bar stand in each lane.
 #[derive(Clone, Copy)]
 pub struct Runs {
     pub lead: Run,
     pub keys: Run,
     pub bass: Run,
-}
-
-// Lead and keys both follow the keys' layer.
-fn runs_in(s: &Score, p: Plays, bar: u8) -> Runs
-    requires { LanesPromise s.now }
-    ensures value { result ≡ runs_in s.now p bar }
-    ensures within { RunsWithin s.now result }
-{
-    Runs {
-        lead: run_in(s, Lane::Lead, p.keys, bar),
-        keys: run_in(s, Lane::Keys, p.keys, bar),
-        bass: run_in(s, Lane::Bass, p.bass, bar),
-    }
 }
 
 // The bytes of a run of a lane's events.
@@ -75,53 +47,108 @@ fn run_size(lane: Lane, run: Run) -> usize
     lane.width(Edition::Two) * (run.to - run.from)
 }
 
-fn page_size(pad: bool, runs: Runs, hits: usize) -> usize
-    requires held { (Held runs.lead × Held runs.keys) × Held runs.bass }
-    requires hits_bound { hits ≤ 196 }
-    ensures { result ≡ runs_size pad runs hits }
-{
-    let lead = run_size(Lane::Lead, runs.lead);
-    let keys = run_size(Lane::Keys, runs.keys);
-    let bass = run_size(Lane::Bass, runs.bass);
-    Edition::Two.field_size() + 15 + chord_size(pad) + lead + keys + 10 * hits + bass
+// What the page of one bar shows: the layers that play in it, the loop bar that it is, and where its events stand.
+#[derive(Clone, Copy)]
+struct Page<'a> {
+    score: &'a Score,
+    plays: Plays,
+    bar: u8,
+    runs: Runs,
+    hits: HeardRuns,
+    ghost writable: { Writable score.now },
+    ghost chorded: { Chorded score.now },
+    ghost bar_bound: { bar < 8 },
+    ghost runs_within: { RunsWithin score.now runs },
+    ghost hits_within: { HitsWithin score.now hits },
+    ghost count_bound: { hits.count ≤ 196 },
 }
 
-// The page by the runs of one loop bar's notes, and of the hits that are heard in it.
-fn put_page(buf: &mut [u8], s: &Score, p: Plays, runs: Runs, hits: HeardRuns, bar: u8) -> usize
-    requires writable { Writable s.now }
-    requires chorded { Chorded s.now }
-    requires bar_bound { bar < 8 }
-    requires runs_within { RunsWithin s.now runs }
-    requires hits_within { HitsWithin s.now hits }
-    requires count_bound { hits.count ≤ 196 }
-    requires room { runs_size p.pad runs hits.count ≤ length buf.old }
-    ensures { Wrote buf.old buf.new 0 result (runs_size p.pad runs hits.count) (runs_bytes s.now p bar runs (run_hits s.now hits)) }
-{
-    let z = put_edition(buf, 0, Edition::Two);
-    let a = put_chord(buf, z, s, p.pad, bar);
-    let b = put_run(buf, a, Edition::Two, s, Lane::Lead, runs.lead);
-    let c = put_run(buf, b, Edition::Two, s, Lane::Keys, runs.keys);
-    let d = put_page_hits(buf, c, s, hits);
-    put_run(buf, d, Edition::Two, s, Lane::Bass, runs.bass)
-}
-
-// The page of a song bar, if the buffer is as long as this very page. The layers that play are known, but for the
-// hits: they are of two bars, and are looked up.
-fn page_into(s: &Score, f: Form, p: Plays, bar: u64, buf: &mut [u8]) -> Result<usize, Refusal>
-    requires paged { Paged s.now }
-    requires chorded { Chorded s.now }
-    requires bar_lt_bars { bar < f.bars }
-    ensures value { result ≡ written_of (length buf.old) (Writes (page_bytes s.now p (loop_bar_of f bar) (page_hits s.now f bar))) }
-    ensures buf_after { buf.new ≡ buffer_of buf.old (Writes (page_bytes s.now p (loop_bar_of f bar) (page_hits s.now f bar))) }
-{
-    let looped = f.loop_bar(bar);
-    let hits = heard_runs(s, f, bar);
-    let runs = runs_in(s, p, looped);
-    let size = page_size(p.pad, runs, hits.count);
-    if buf.len() < size {
-        return Err(Refusal::ShortBuffer);
+impl<'a> Page<'a> {
+    // Its length.
+    fn size(&self) -> usize
+        ensures { result ≡ runs_size self.now.plays.pad self.now.runs self.now.hits.count }
+    {
+        let lead = run_size(Lane::Lead, self.runs.lead);
+        let keys = run_size(Lane::Keys, self.runs.keys);
+        let bass = run_size(Lane::Bass, self.runs.bass);
+        let chord = chord_size(self.plays.pad);
+        Edition::Two.field_size() + 15 + chord + lead + keys + 10 * self.hits.count + bass
     }
-    Ok(put_page(buf, s, p, runs, hits, looped))
+
+    // 0x03: the bar's chord, or nothing where the pad is silent.
+    fn put_chord(&self, buf: &mut [u8], at: usize) -> usize
+        requires { at + (3 + chord_size self.now.plays.pad) ≤ length buf.old }
+        ensures { Wrote buf.old buf.new at result (3 + chord_size self.now.plays.pad) (chord_field self.now.score.now self.now.plays.pad self.now.bar) }
+    {
+        if !self.plays.pad {
+            return put_head(buf, at, 0x03, 0);
+        }
+        let chords = bar_chords(self.score.bar_chords);
+        let a = put_head(buf, at, 0x03, 4);
+        put_bytes(buf, a, &chords[self.bar as usize])
+    }
+
+    // 0x07: the hits that are heard in it.
+    fn put_hits(&self, buf: &mut [u8], at: usize) -> usize
+        requires { at + (3 + 10 * self.now.hits.count) ≤ length buf.old }
+        ensures { Wrote buf.old buf.new at result (3 + 10 * self.now.hits.count) (hits_field (run_hits self.now.score.now self.now.hits)) }
+    {
+        let h = self.hits;
+        let a = put_head(buf, at, 0x07, 10 * h.count);
+        let b = put_part(buf, a, self.score, h.own, h.part);
+        put_part(buf, b, self.score, h.next, Part::Early)
+    }
+
+    // The whole, from the start of a buffer that is long enough.
+    fn put(&self, buf: &mut [u8]) -> usize
+        requires { runs_size self.now.plays.pad self.now.runs self.now.hits.count ≤ length buf.old }
+        ensures { Wrote buf.old buf.new 0 result (runs_size self.now.plays.pad self.now.runs self.now.hits.count) (runs_bytes self.now.score.now self.now.plays self.now.bar self.now.runs (run_hits self.now.score.now self.now.hits)) }
+    {
+        let s = self.score;
+        let z = put_edition(buf, 0, Edition::Two);
+        let a = self.put_chord(buf, z);
+        let b = put_run(buf, a, Edition::Two, s, Lane::Lead, self.runs.lead);
+        let c = put_run(buf, b, Edition::Two, s, Lane::Keys, self.runs.keys);
+        let d = self.put_hits(buf, c);
+        put_run(buf, d, Edition::Two, s, Lane::Bass, self.runs.bass)
+    }
+}
+
+impl<'a> PagedSong<'a> {
+    // Lead and keys both follow the keys' layer.
+    fn runs_in(&self, p: Plays, bar: u8) -> Runs
+        ensures value { result ≡ runs_in self.now.score.now p bar }
+        ensures within { RunsWithin self.now.score.now result }
+    {
+        Runs {
+            lead: self.run_in(Lane::Lead, p.keys, bar),
+            keys: self.run_in(Lane::Keys, p.keys, bar),
+            bass: self.run_in(Lane::Bass, p.bass, bar),
+        }
+    }
+
+    // The page of a song bar, if the buffer is as long as this very page. The layers that play are known, but for the
+    // hits: they are of two bars, and are looked up.
+    fn page_into(&self, p: Plays, bar: u64, buf: &mut [u8]) -> Result<usize, Refusal>
+        requires { bar < 256 }
+        ensures value { result ≡ written_of (length buf.old) (Writes (page_bytes self.now.score.now p (loop_bar_of self.now.form.now bar) (page_hits self.now.score.now self.now.form.now bar))) }
+        ensures buf_after { buf.new ≡ buffer_of buf.old (Writes (page_bytes self.now.score.now p (loop_bar_of self.now.form.now bar) (page_hits self.now.score.now self.now.form.now bar))) }
+    {
+        let looped = self.form.loop_bar(bar);
+        let hits = self.heard_runs(bar);
+        let runs = self.runs_in(p, looped);
+        let page = Page {
+            score: self.score,
+            plays: p,
+            bar: looped,
+            runs,
+            hits,
+        };
+        if buf.len() < page.size() {
+            return Err(Refusal::ShortBuffer);
+        }
+        Ok(page.put(buf))
+    }
 }
 
 // The page of a song bar; a look-up of its plays that is refused is passed on.
@@ -136,7 +163,11 @@ fn page_of(s: Score, f: Form, bar: u64, buf: &mut [u8]) -> Result<usize, Refusal
     let Ok(p) = a else {
         return a.and(Ok(0));
     };
-    page_into(&s, f, p, bar, buf)
+    let song = PagedSong {
+        score: &s,
+        form: &f,
+    };
+    song.page_into(p, bar, buf)
 }
 
 // The page of song bar `bar` of a seed's song in style 0 or 1, from the buffer's first byte on, and its

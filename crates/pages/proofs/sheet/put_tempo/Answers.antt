@@ -1,8 +1,0 @@
--- The head, then the tempo. Assumes nothing.
-use Rattle.laws.proofs.Writes.{wrote_then}
-use Rattle.pages.specs.Bytes.{field}
-use Rattle.pages.proofs.sheet.put_tempo.Goals as goal
-
-pub returns : goal.returns
-unfolding field
-returns c = wrote_then c.put_head-a.ensures c.put_f32.ensures
