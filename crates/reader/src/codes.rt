@@ -8,44 +8,27 @@ use crate::layout::Fields;
 use composer::form::ends::{Bars, Edge, End, Outro};
 use composer::form::plays::Plays;
 use composer::note::{DrumKind, NoteRole};
+use composer::style::Style;
 use composer::voice::LeadVoice;
 use pages::get::byte_in;
 
 pub(crate) fn voice_coded(n: u8) -> LeadVoice
     ensures { result ≡ voice_coded n }
 {
-    match n {
-        0 => LeadVoice::EpVel,
-        1 => LeadVoice::Pluck,
-        2 => LeadVoice::Kalimba,
-        _ => LeadVoice::Vibraphone,
-    }
+    LeadVoice::try_from(n).unwrap_or(LeadVoice::Vibraphone)
 }
 
 pub(crate) fn kind_coded(n: u8) -> DrumKind
     ensures { result ≡ kind_coded n }
 {
-    match n {
-        0 => DrumKind::Kick,
-        1 => DrumKind::Snare,
-        2 => DrumKind::Hat,
-        _ => DrumKind::OpenHat,
-    }
+    DrumKind::try_from(n).unwrap_or(DrumKind::OpenHat)
 }
 
 // A lead note's six roles; any other code is none of them.
 fn lead_role_coded(n: u8) -> NoteRole
     ensures { result ≡ lead_role_coded n }
 {
-    match n {
-        0 => NoteRole::Quote,
-        1 => NoteRole::Close,
-        2 => NoteRole::Peak,
-        3 => NoteRole::Resolve,
-        4 => NoteRole::ChordTone,
-        5 => NoteRole::Passing,
-        _ => NoteRole::Backing,
-    }
+    NoteRole::try_from(n).unwrap_or(NoteRole::Backing)
 }
 
 // The role of a note of the lead, or of any other.
@@ -61,6 +44,7 @@ pub(crate) fn role_coded(leads: bool, n: u8) -> NoteRole
     }
 }
 
+// Bars and edges have two codes each: one test says that plainer than a conversion that may refuse.
 fn bars_coded(n: u8) -> Bars
     ensures { result ≡ bars_coded n }
 {
@@ -140,7 +124,7 @@ fn name_known(bytes: &[u8], at: usize) -> bool
 {
     let style = byte_in(bytes, at);
     let voice = byte_in(bytes, at + 9);
-    (style <= 1) & (voice <= 3)
+    Style::try_from(style).is_ok() & LeadVoice::try_from(voice).is_ok()
 }
 
 // The drums of n hits.
@@ -151,7 +135,8 @@ fn kinds_known(bytes: &[u8], at: usize, n: usize) -> bool
 {
     let mut ok = true;
     for i in 0..n {
-        ok &= byte_in(bytes, at + 10 * i + 1) <= 3;
+        let kind = byte_in(bytes, at + 10 * i + 1);
+        ok &= DrumKind::try_from(kind).is_ok();
     }
     ok
 }
