@@ -1,5 +1,5 @@
 // The layers that strike in one bar. The lead plays in the keys' layer.
-ghost use Rattle.std.specs.Prelude.{cond, ◌≡◌, ◌≤◌};
+ghost use Rattle.std.specs.Prelude.{◌≡◌};
 ghost use Rattle.composer.specs.Form.Plays.{bits_of};
 
 #[derive(Clone, Copy)]
@@ -10,19 +10,12 @@ pub struct Plays {
     pub bass: bool,
 }
 
-fn bit(on: bool, value: u8) -> u8
-    ensures value { result ≡ cond on value 0 }
-    ensures upper_bound { result ≤ value }
-{
-    if on { value } else { 0 }
-}
-
 impl Plays {
     // Its byte on a sheet: bit 0 the pad, 1 the keys, 2 the drums, 3 the bass.
     pub fn bits(self) -> u8
         ensures { result ≡ bits_of self }
     {
-        bit(self.pad, 1) + bit(self.keys, 2) + bit(self.drums, 4) + bit(self.bass, 8)
+        u8::from(self.pad) | u8::from(self.keys) << 1 | u8::from(self.drums) << 2 | u8::from(self.bass) << 3
     }
 }
 
