@@ -1,5 +1,6 @@
 // Writers at a place in a buffer: each answers the place after what it wrote. Numbers are big-endian. They serve the
 // crates above as well, and ask for their room.
+// No cursor of buffer and place: a clause would name both of its parts, before and after. `halls` calls `put_u64`.
 ghost use Rattle.std.specs.Prelude.{[], ◌∷◌, ◌≡◌, ◌+◌, ◌*◌, ◌/◌, ◌%◌, ◌<◌, ◌≤◌, T, length};
 ghost use Rattle.std.specs.Float.Ieee.Scale.{finite};
 ghost use Rattle.laws.specs.Writes.{Wrote};
