@@ -1,33 +1,19 @@
 -- Lanes are in range as their events are, one by one. Assumes nothing.
 use mathlib.Core.Path.{◌≡◌, sym, ap}
-use mathlib.Core.Bool.{Bool, and-true, ◌&&◌}
+use mathlib.Core.Bool.{Bool}
 use mathlib.Core.List.{List}
 use Prim.Native.Nat.{ℕ, ◌+◌, ◌*◌, ◌≤◌}
-use borrow.Author.Tests.{le-leb, eq-eqb}
-use lib.Dec.{leb, ltb}
-use lib.Ieee.Scale.{finite}
+use borrow.Author.Tests.{le-leb}
 use lib.ListN.{get_or}
 use Rattle.laws.specs.Lists.{pad}
 use Rattle.composer.specs.Note.{no_note, past_note, no_hit, past_hit}
-use Rattle.composer.specs.declared.note.Hit.{Hit}
-use Rattle.composer.specs.declared.note.Note.{Note}
 use Rattle.pages.specs.Edition.{note_width}
 use Rattle.pages.specs.declared.edition.Edition.{Edition}
 use Rattle.reader.specs.Inner.Reading.{notes_pass, hits_pass}
 use Rattle.reader.specs.Song.{note_at, hit_at, notes_at, hits_at}
-use Rattle.reader.specs.Within.{role_within, note_within, hit_within, notes_within, hits_within}
+use Rattle.reader.specs.Within.{note_within, hit_within, notes_within, hits_within}
 use Rattle.reader.proofs.ArrayLaws.{array_at}
 use Rattle.reader.proofs.TestLaws.{all_to_same}
-
--- what is read has no spare byte to test
-pub note_tests : (edition : Edition) (leads : Bool) (n : Note) → n.spare ≡ 0
-    → (ltb n.bar 8 && leb n.midi 127 && role_within edition leads n.role && finite n.at && finite n.vel && finite n.dur) ≡ note_within edition leads n
-unfolding note_within
-note_tests edition leads n e = rw (eq-eqb n.spare 0 e, and-true (ltb n.bar 8 && leb n.midi 127 && role_within edition leads n.role))
-
-pub hit_tests : (h : Hit) → h.spare ≡ 0 → (ltb h.bar 8 && finite h.at && finite h.gain) ≡ hit_within h
-unfolding hit_within
-hit_tests h e = rw (eq-eqb h.spare 0 e, and-true (ltb h.bar 8))
 
 pub notes_within_lem : (edition : Edition) (leads : Bool) (bytes : List ℕ) (at cap n : ℕ) → n ≤ cap → notes_pass edition leads bytes at n ≡ notes_within edition leads (pad no_note cap (notes_at edition leads bytes at n)) cap n
 unfolding notes_within

@@ -16,13 +16,6 @@ use Rattle.laws.proofs.Lists.{length_pad, pad_at_lem, get_d_any}
 use Rattle.laws.proofs.Written.{rest_is}
 use Rattle.reader.specs.Tests.{all_to}
 
--- where the first of two is known
-pub and_then : {a t : Bool} (b : Bool) → a ≡ true → t ≡ b → t ≡ (a && b)
-and_then b p q = rw p q
-
-pub and_else : {a t : Bool} (b : Bool) → a ≡ false → t ≡ false → t ≡ (a && b)
-and_else b p q = rw p q
-
 pub all_to_at : (p : ℕ → Bool) (n : ℕ) → all_to p n ≡ true → (i : ℕ) → i < n → p i ≡ true
 unfolding all_to
 all_to_at p zero e i h = absurd (not-suc-le-zero h)
@@ -34,14 +27,6 @@ pub all_to_by : (p : ℕ → Bool) (n : ℕ) → ((i : ℕ) → i < n → p i �
 unfolding all_to
 all_to_by p zero f = refl
 all_to_by p (suc n) f = rw (all_to_by p n (λ i h. f i (omega arith)), f n (omega arith))
-
--- one that fails is enough
-pub all_to_fails : (p : ℕ → Bool) (n i : ℕ) → i < n → p i ≡ false → false ≡ all_to p n
-all_to_fails p n i h e = go (all_to p n) refl
-  where
-    go : (t : Bool) → all_to p n ≡ t → false ≡ t
-    go true q = sym e ∙ all_to_at p n q i h
-    go false q = refl
 
 -- tests that say the same
 pub all_to_same : (p q : ℕ → Bool) (n : ℕ) → ((i : ℕ) → i < n → p i ≡ q i) → all_to p n ≡ all_to q n

@@ -56,7 +56,7 @@ impl<'a> Fields<'a> {
         self.bodies[k]
     }
 
-    // Of how many bytes it is.
+    // Its length: in bytes, in notes and in hits.
     pub(crate) fn size(&self, k: usize) -> usize
         requires { k < 10 }
         ensures { result ≡ size_at self.now.bytes.now k }
@@ -64,7 +64,6 @@ impl<'a> Fields<'a> {
         self.sizes[k]
     }
 
-    // Of how many notes.
     pub(crate) fn notes(&self, k: usize) -> usize
         requires { k < 10 }
         ensures { result ≡ note_count_in self.now.bytes.now k }
@@ -72,7 +71,6 @@ impl<'a> Fields<'a> {
         self.sizes[k] / self.edition.note_width()
     }
 
-    // Of how many hits.
     pub(crate) fn hits(&self, k: usize) -> usize
         requires { k < 10 }
         ensures { result ≡ hit_count_in self.now.bytes.now k }

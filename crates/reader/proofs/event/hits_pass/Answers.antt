@@ -7,7 +7,7 @@ use Rattle.std.proofs.Common.{rules}
 use Rattle.std.proofs.lemmas.Iterator.{YieldsList-from_range}
 use Rattle.std.proofs.lemmas.Iterator.Search.{all_from_yields_List}
 use Rattle.reader.specs.Layout.{body_at}
-use Rattle.reader.specs.Song.{hit_at, hit_count_in}
+use Rattle.reader.specs.Song.{hit_at}
 use Rattle.reader.specs.Tests.{all_to}
 use Rattle.reader.specs.Within.{hit_within}
 use Rattle.reader.proofs.LoopLaws.{all_in_range}

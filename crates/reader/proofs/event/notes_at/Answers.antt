@@ -1,5 +1,4 @@
 -- What passes together passes one by one. Assumes nothing.
-use mathlib.Core.Path.{◌≡◌}
 use Prim.Native.Nat.{◌+◌, ◌*◌}
 use native.Mathlib.Omega.{arith}
 use Rattle.pages.specs.Edition.{note_width}

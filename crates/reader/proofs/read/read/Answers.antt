@@ -1,5 +1,5 @@
 -- What passes the tests gives its song, and anything else the refusal. Assumes nothing.
-use mathlib.Core.Path.{◌≡◌, sym, ◌∙◌}
+use mathlib.Core.Path.{sym}
 use native.Mathlib.Omega.{arith}
 use Rattle.std.proofs.lemmas.Result.{err_from_is_err_and}
 use Rattle.reader.proofs.AskedLaws.{tested_passes, read_refused_lem, passes_read}
