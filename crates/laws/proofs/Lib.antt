@@ -10,7 +10,6 @@ pub mod Keyed
 pub mod Lanes
 pub mod Lists
 pub mod Order
-pub mod Product
 pub mod Rounding
 pub mod Rows
 pub mod Runs
@@ -19,7 +18,6 @@ pub mod Sizes
 pub mod Sorts
 pub mod Splices
 pub mod Sums
-pub mod Truncation
 pub mod Whole
 pub mod Writes
 pub mod Written

@@ -14,21 +14,6 @@ fn whole(x: f32) -> f32
     if near > x { near - 1.0 } else { near }
 }
 
-// x without its fraction, by the library, for every x.
-fn truncated_any(x: f32) -> u64
-    ensures { result ≡ to_unsigned 64 x }
-{
-    if x > -1.0 {
-        if x < 18446744073709551616.0 {
-            std::num::truncating_f32_to_u64(x)
-        } else {
-            18446744073709551615
-        }
-    } else {
-        0
-    }
-}
-
 // x without its fraction, as the Rust's `as` has it: 0 below zero and at a NaN, the largest u64
 // where x is too large for one. From 0 up to 2^23 by `whole`, which has no shifts.
 pub fn truncated(x: f32) -> u64
@@ -38,7 +23,7 @@ pub fn truncated(x: f32) -> u64
         let w = whole(x);
         (w as u32) as u64
     } else {
-        truncated_any(x)
+        std::num::saturating_f32_to_u64(x)
     }
 }
 

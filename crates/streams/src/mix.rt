@@ -9,18 +9,11 @@ const SPLITMIX64_M1: u64 = 0xbf58_476d_1ce4_e5b9;
 
 const SPLITMIX64_M2: u64 = 0x94d0_49bb_1331_11eb;
 
-// The product of a and b modulo 2^64, by halves of 32 bits.
+// The product of a and b modulo 2^64.
 pub fn wrapping_mul_u64(a: u64, b: u64) -> u64
     ensures { result ≡ a * b % 2 ^ 64 }
 {
-    let a1 = a / 4294967296;
-    let a0 = a % 4294967296;
-    let b1 = b / 4294967296;
-    let b0 = b % 4294967296;
-    let y = a1 * b0 % 4294967296;
-    let z = a0 * b1 % 4294967296;
-    let mid = (y + z) % 4294967296;
-    std::num::wrapping_add_u64(a0 * b0, mid * 4294967296)
+    a.wrapping_mul(b)
 }
 
 // The finaliser of SplitMix64.
@@ -37,5 +30,5 @@ pub fn splitmix_draw(seed: u64, n: u64) -> u64
     ensures { result ≡ splitmix_draw_of seed n }
 {
     let g = wrapping_mul_u64(n, GOLDEN_GAMMA);
-    splitmix64(std::num::wrapping_add_u64(seed, g))
+    splitmix64(seed.wrapping_add(g))
 }

@@ -43,12 +43,13 @@ impl NoiseStream {
     }
 
     // The stream after n draws more, which are not made.
+    #[tactic(auto, unfolding(crate::specs::Stream::after))]
     pub fn skipped(self, n: u64) -> NoiseStream
         ensures { result ≡ after self n }
     {
         NoiseStream {
             seed: self.seed,
-            counter: std::num::wrapping_add_u64(self.counter, n),
+            counter: self.counter.wrapping_add(n),
         }
     }
 
@@ -56,7 +57,7 @@ impl NoiseStream {
     pub fn next_u64(self) -> Draw<u64>
         ensures { result ≡ next_u64_of self }
     {
-        let n = std::num::wrapping_add_u64(self.counter, 1);
+        let n = self.counter.wrapping_add(1);
         let stream = NoiseStream {
             seed: self.seed,
             counter: n,

@@ -35,5 +35,5 @@ pub fn undraw(w: u64, n: u64) -> u64
     ensures { result ≡ undraw_of w n }
 {
     let g = wrapping_mul_u64(n, MINUS_GAMMA);
-    std::num::wrapping_add_u64(unmix(w), g)
+    unmix(w).wrapping_add(g)
 }

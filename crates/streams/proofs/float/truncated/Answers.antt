@@ -1,4 +1,4 @@
--- From 0 to 2^23 the whole part is a float, whose cast loses nothing (`whole_cast`); other values are left to `truncated_any`. Assumes nothing.
+-- From 0 to 2^23 the whole part is a float, whose cast loses nothing (`whole_cast`); other values are left to the library. Assumes nothing.
 use Rattle.std.proofs.Common.{◌≡◌, T, arith}
 use lib.Ieee.{binary32, to_unsigned, in_unsigned}
 use lib.Ieee.Casts.{to_unsigned-lt}

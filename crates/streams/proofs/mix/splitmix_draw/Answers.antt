@@ -7,5 +7,5 @@ pub returns : goal.returns
 unfolding splitmix_draw_of
 returns c =
     let s = c.args in
-    let e : c.wrapping_add_u64.result ≡ (s.seed + s.n * golden_gamma) % 2 ^ 64 = omega (arith, c.wrapping_add_u64.ensures.value, c.wrapping_mul_u64-g.ensures) in
+    let e : (s.seed + c.wrapping_mul_u64-g.result) % 2 ^ 64 ≡ (s.seed + s.n * golden_gamma) % 2 ^ 64 = omega (arith, c.wrapping_mul_u64-g.ensures) in
     c.splitmix64.ensures ∙ ap splitmix64_of e
