@@ -113,7 +113,8 @@ pub fn no_score() -> Score
     }
 }
 
-// The style by its number, 0 or 1; any other number gives sleep, and who asks refuses it.
+// The style by its number, 0 or 1; any other number gives sleep, and who asks refuses it. A public function that has
+// always an answer, so it stays beside `Style::try_from`.
 pub fn style_by(number: u8) -> Style
     ensures { result ≡ style_by number }
 {

@@ -1,7 +1,8 @@
 // An array of which the first entries count.
 ghost use Rattle.std.specs.Prelude.{◌≡◌, ◌≤◌, take};
 
-// The first n entries are in use; what stands behind them is not read.
+// The first n entries are in use; what stands behind them is not read. That n is at most N is no ghost field: the
+// definitions make such values of any list, and each would have to prove it.
 #[derive(Clone, Copy)]
 pub struct Few<T, const N: usize> {
     pub at: [T; N],

@@ -37,7 +37,7 @@ impl TryFrom<u8> for Style {
     }
 }
 
-// The chance of what a style may not do at all.
+// The chance of what a style may not do at all. Document 01 asks for an enum here where the Rust has an Option.
 #[derive(Clone, Copy)]
 pub enum Odds {
     Never,

@@ -27,7 +27,8 @@ fn is_early(beat_s: f32, h: Hit) -> bool
     h.at < bar_start(h.bar, beat_s)
 }
 
-// Which hits of a bar a page shows: all, those that are not early, or those that are.
+// Which hits of a bar a page shows: all, those that are not early, or those that are. A value and no closure: a page
+// keeps it, and the definitions name it.
 #[derive(Clone, Copy)]
 pub enum Part {
     All,

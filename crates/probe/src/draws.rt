@@ -8,7 +8,7 @@ use streams::draw::{chance, coin, pick};
 use streams::float::bits_of;
 use streams::stream::{Draw, NoiseStream};
 
-// What is drawn.
+// What is drawn. A kind and no closure, since the five calls promise a run of draws by the name of its kind.
 #[derive(Clone, Copy)]
 pub enum Kind {
     Word,

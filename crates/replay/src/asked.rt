@@ -233,7 +233,8 @@ fn lesson_seed(start: u64, how: u64) -> u64 {
     lesson_of(start, how).unwrap_or(u64::MAX)
 }
 
-// Our answer; the largest number for a letter that asks nothing.
+// Our answer; the largest number for a letter that asks nothing. A table of functions would be no plainer: many of them
+// take a style or an edition besides.
 pub fn answer(what: u8, a: u64, b: u64) -> u64 {
     match what {
         b'S' => stage_seed(a, b),

@@ -178,7 +178,8 @@ fn onset(beat_s: f32, bar: u8, step: u8) -> f32
     bar_start(bar, beat_s) + step as f32 * step_s
 }
 
-// How long a note at `at` is held: most of its gap, and not past the loop's end.
+// How long a note at `at` is held: most of its gap, and not past the loop's end. Not `min`, which would take the other
+// where one is a NaN: `held_of` takes the second.
 fn held(beat_s: f32, gap: u8, at: f32) -> f32
     ensures { result ≡ held_of beat_s gap at }
 {
