@@ -41,7 +41,7 @@ pub(crate) fn remove(b: Beats, k: usize) -> Beats
     for i in 0..n {
         at[i] = left_at(from, k, i);
     }
-    Beats { at: at, n: n }
+    Beats { at, n }
 }
 
 // d, or -d where d is below 0.
@@ -75,7 +75,7 @@ fn thinned(a: &[f32], n: usize) -> Beats
 {
     let mut at = [0.0f32; 7];
     if n == 0 {
-        return Beats { at: at, n: 0 };
+        return Beats { at, n: 0 };
     }
     at[0] = a[0];
     let mut m: usize = 1;
@@ -87,10 +87,10 @@ fn thinned(a: &[f32], n: usize) -> Beats
         m += k;
     }
     if m == 7 {
-        return Beats { at: at, n: m };
+        return Beats { at, n: m };
     }
     at[m] = 0.0;
-    Beats { at: at, n: m }
+    Beats { at, n: m }
 }
 
 // The first n of a in order, each a gap from the last.
