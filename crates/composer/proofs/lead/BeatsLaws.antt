@@ -8,7 +8,7 @@ use native.Mathlib.Nat.{not-suc-le-zero, le_of_suc-le-suc}
 use native.Mathlib.Omega.{arith}
 use lib.Dec.{ltb}
 use lib.ListN.{length, take, get_or, set, replicate, length-append}
-use lib.Seq.{take_at, take-suc, set_out, get_or-take, length-take-le, ext_get_or}
+use lib.Seq.{take_at, take-suc, get_or-take, length-take-le, ext_get_or}
 use lib.Ieee.{Float, nan}
 use borrow.Author.Tests.{ltb-true, ltb-false}
 use Rattle.laws.specs.Lists.{list_to, pad}
@@ -71,18 +71,6 @@ module _ (a : List Float) (k n : ℕ) (h : k < n) (l : n ≤ length a) where
 -- ---- behind the beats
 pub rest_zero : (xs : List Float) (i : ℕ) → length xs ≤ i → i < 7 → get_or (beats_of xs).at i nan ≡ zero32
 rest_zero xs i h l = rest_is zero32 7 xs i nan h l
-
--- ---- beats that a loop has written
-beats_are : (a b : List Float) (m k : ℕ) → a ≡ b → m ≡ k → ◌≡◌ {A = Beats} (record { at = a; n = m }) (record { at = b; n = k })
-beats_are a b m k e f = rw (e, f)
-
-pub written_rest : (xs at : List Float) (n : ℕ) → Written zero32 7 xs at n → ◌≡◌ {A = Beats} (record { at = set at n zero32; n = n }) (beats_of xs)
-written_rest xs at n w = beats_are (set at n zero32) (pad zero32 7 xs) n (length xs) w.cleared w.count
-
-pub written_full : (xs at : List Float) (n : ℕ) → Written zero32 7 xs at n → n ≡ 7 → ◌≡◌ {A = Beats} (record { at = at; n = n }) (beats_of xs)
-written_full xs at n w e =
-    let l = w.size in
-    beats_are at (pad zero32 7 xs) n (length xs) (sym (set_out at n zero32 (omega arith)) ∙ w.cleared) w.count
 
 -- ---- thinned
 -- the last of them, or k
