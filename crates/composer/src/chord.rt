@@ -93,5 +93,5 @@ pub(crate) fn voiced(d: u8, key: u8) -> Chord
         root + FIFTH,
         root + degree.seventh,
     ];
-    Chord { notes: notes }
+    Chord { notes }
 }

@@ -29,10 +29,10 @@ fn bar_of(number: u8, beat_s: f32, wobble: f32) -> Bar
     ensures { result ≡ bar_of number beat_s wobble }
 {
     Bar {
-        number: number,
+        number,
         start: bar_start(number, beat_s),
-        beat_s: beat_s,
-        wobble: wobble,
+        beat_s,
+        wobble,
     }
 }
 

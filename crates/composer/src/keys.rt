@@ -59,10 +59,9 @@ fn shell_of(chord: Chord) -> Shell
     requires { shell_of chord ≡ placed_shell chord }
     ensures { result ≡ shell_of chord }
 {
-    let notes = chord.notes;
     Shell {
-        third: notes[1],
-        seventh: notes[3],
+        third: chord.notes[1],
+        seventh: chord.notes[3],
     }
 }
 

@@ -36,10 +36,7 @@ impl NoiseStream {
     pub fn new(seed: u64) -> NoiseStream
         ensures { result ≡ new_of seed }
     {
-        NoiseStream {
-            seed: seed,
-            counter: 0,
-        }
+        NoiseStream { seed, counter: 0 }
     }
 
     // The stream after n draws more, which are not made.

@@ -66,7 +66,7 @@ module _ (pool : List Bool) (g : Ground) (sound : Sound pool g) where
       let w = walk_in pool up g.lo g.hi n (room_of up g.lo g.hi n) steps a b (omega arith) in
       sound.snaps (walk_of pool up n (room_of up g.lo g.hi n) steps) w.0 w.1
 
-  pub tones_for_tuned : (strong : Bool) → Tuned pool g.lo g.hi (tones_for_of g strong)
+  tones_for_tuned : (strong : Bool) → Tuned pool g.lo g.hi (tones_for_of g strong)
   tones_for_tuned true = sound.strong
   tones_for_tuned false = sound.tones
 
@@ -89,7 +89,7 @@ module _ (pool : List Bool) (g : Ground) (sound : Sound pool g) where
   step_note_fits l p first f = pitch_fits (role_of l p).value (role_of l p).stream l p first f (role_quotes l p)
 
 -- ---- the line after one note more
-pub opens_room : (bar heads : ℕ) → opens_line_of bar heads ≡ true → heads < 2
+opens_room : (bar heads : ℕ) → opens_line_of bar heads ≡ true → heads < 2
 opens_room bar heads h = ltb-true heads 2 (both (eqb bar 0) (ltb heads 2) h).1
 
 module _ (pool : List Bool) (lo hi : ℕ) (l : Line) (opening note : ℕ) (f : Fit pool lo hi l opening) (fits : T (fits_of pool lo hi note)) where

@@ -22,19 +22,13 @@ pub(crate) fn ground_of(style: LeadStyle, chord: Chord, sung: Tones) -> Ground
     requires { sung.n ≤ 20 }
     ensures { result ≡ ground_from style chord sung }
 {
-    let lo = style.lo;
-    let hi = style.hi;
-    let velocity = style.velocity;
     let found = chord_tones(sung, chord);
-    let tones = found.tones;
-    let rootless = found.rootless;
-    let strong = strong_of(tones, rootless);
     Ground {
-        lo: lo,
-        hi: hi,
-        velocity: velocity,
-        tones: tones,
-        strong: strong,
+        lo: style.lo,
+        hi: style.hi,
+        velocity: style.velocity,
+        tones: found.tones,
+        strong: strong_of(found.tones, found.rootless),
     }
 }
 
@@ -42,11 +36,5 @@ pub(crate) fn ground_of(style: LeadStyle, chord: Chord, sung: Tones) -> Ground
 pub(crate) fn tones_for(g: Ground, strong: bool) -> Tones
     ensures { result ≡ tones_for_of g strong }
 {
-    if strong {
-        let t = g.strong;
-        t
-    } else {
-        let t = g.tones;
-        t
-    }
+    if strong { g.strong } else { g.tones }
 }

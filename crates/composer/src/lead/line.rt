@@ -51,14 +51,11 @@ pub(crate) fn place_of(bar: u8, b: Beats, i: usize) -> Place
     requires { i < 7 }
     ensures { result ≡ place_of bar b i }
 {
-    let at = b.at;
-    let last = is_last(bar, i, b.n);
-    let strong = is_strong(at[i]);
     Place {
-        bar: bar,
-        i: i,
-        last: last,
-        strong: strong,
+        bar,
+        i,
+        last: is_last(bar, i, b.n),
+        strong: is_strong(b.at[i]),
     }
 }
 
@@ -82,7 +79,7 @@ pub(crate) fn carried(l: Line, bar: u8, note: u8, s: NoiseStream) -> Line
             stream: s,
             from: l.prev,
             prev: note,
-            head: head,
+            head,
             heads: heads + 1,
         };
     }
@@ -90,7 +87,7 @@ pub(crate) fn carried(l: Line, bar: u8, note: u8, s: NoiseStream) -> Line
         stream: s,
         from: l.prev,
         prev: note,
-        head: head,
-        heads: heads,
+        head,
+        heads,
     }
 }

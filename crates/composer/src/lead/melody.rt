@@ -98,12 +98,9 @@ fn start(style: LeadStyle, chord: Chord, pool: &[bool]) -> u8
     requires { (style.lo + 12 ≤ style.hi) × (style.hi < style.lo + 20) × (style.hi < 120) × (0 < length (tones_in chord.notes pool.now no_class (max style.lo (style.hi - 12)) style.hi)) }
     ensures { result ≡ start_of style chord pool.now }
 {
-    let lo = style.lo;
-    let hi = style.hi;
-    let top = scale_notes(pool, hi - OCTAVE, hi);
+    let top = scale_notes(pool, style.hi - OCTAVE, style.hi);
     let found = chord_tones(top, chord);
-    let tones = found.tones;
-    near(tones, (lo + hi) / 2 + START_LIFT)
+    near(found.tones, (style.lo + style.hi) / 2 + START_LIFT)
 }
 
 // The line before its first note.
@@ -149,21 +146,16 @@ pub(crate) fn melody(
             let place = place_of(bar, b, i);
             let first = opening(count, line.prev, notes[0].note);
             let t = step(pool, g, line, place, first);
-            let role = t.role;
             notes[count] = LeadNote {
-                bar: bar,
+                bar,
                 beat: at[i],
                 note: t.note,
-                role: role,
+                role: t.role,
                 vel: t.vel,
             };
             count += 1;
             line = t.line;
         }
     }
-    Sung {
-        notes: notes,
-        count: count,
-        line: line,
-    }
+    Sung { notes, count, line }
 }

@@ -30,10 +30,7 @@ fn after(sounds: bool, pushed: NoiseStream, before: NoiseStream) -> NoiseStream
 {
     let seed = chosen(sounds, pushed.seed, before.seed);
     let counter = chosen(sounds, pushed.counter, before.counter);
-    NoiseStream {
-        seed: seed,
-        counter: counter,
-    }
+    NoiseStream { seed, counter }
 }
 
 // A bar of the statement: all slots are drawn, then the pushes of those that sound.

@@ -4,4 +4,4 @@ use Rattle.composer.proofs.lead.ground.ground_of.Goals as goal
 
 pub returns : goal.returns
 unfolding ground_from
-returns c = rw (c.strong_of-strong.ensures, c.chord_tones-found.ensures)
+returns c = rw (c.strong_of.ensures, c.chord_tones-found.ensures)

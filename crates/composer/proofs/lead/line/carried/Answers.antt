@@ -1,11 +1,7 @@
 -- The test decides of the head and its count alike. Assumes nothing.
 use mathlib.Core.Path.{sym, ◌∙◌}
 use Rattle.composer.specs.Lead.Line.{carried_of}
-use Rattle.composer.proofs.lead.PitchLaws.{opens_room}
 use Rattle.composer.proofs.lead.line.carried.Goals as goal
-
-pub bounds-head-heads : goal.bounds-head-heads
-bounds-head-heads c = opens_room c.args.bar c.args.l.heads (sym c.opens_line.ensures ∙ c.if-opens_line.true)
 
 pub returns-then-opens_line : goal.returns-then-opens_line
 unfolding carried_of
