@@ -210,6 +210,7 @@ fn held(beat_s: f32, gap: u8, at: f32) -> f32
     let loop_s = bar_s * 8.0;
     let a = gap as f32 * step_s * BASS_GATE;
     let b = loop_s - at;
+    // `min` leaves it open which of 0 and -0 it gives
     if a < b { a } else { b }
 }
 
