@@ -1,6 +1,5 @@
 -- The loop keeps the lowest rank, which is the nearest note's. Assumes nothing.
-use Rattle.std.proofs.Common.{◌≡◌, sym, ◌∙◌, ap, ℕ, min, get_or, length, take, arith, rules}
-use Rattle.std.specs.List.{fold}
+use Rattle.std.proofs.Common.{sym, ℕ, min, arith}
 use Rattle.std.proofs.lemmas.List.{take_all}
 use Rattle.std.proofs.lemmas.List.Sums.{fold_more}
 use Rattle.composer.specs.Lead.Tones.{rank_of}
