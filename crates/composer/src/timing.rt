@@ -20,7 +20,7 @@ pub(crate) fn swing_delay(s: f32, eighth_s: f32) -> f32
     (s - 0.5) * eighth_s
 }
 
-// t, or 0 where t is not above it: no hit is before the loop.
+// t, or 0 where t is not above it: no hit is before the loop. `max` leaves it open which of 0 and -0 it gives.
 pub(crate) fn held_at_zero(t: f32) -> f32
     ensures { result ≡ held_at_zero t }
 {

@@ -69,7 +69,7 @@ module _ (d : Decisions) where
       rw (le-ltb (n + b) n late, e, lt-ltb b (8 * d.phrases) h)
 
   -- the song's bars as the loops make them: the intro's, phrase by phrase the body's, the outro's
-  pub in_intro : (n b : ℕ) → b < n → intro_plays d.opening ≡ song_bar_of d n b
+  in_intro : (n b : ℕ) → b < n → intro_plays d.opening ≡ song_bar_of d n b
   unfolding song_bar_of
   in_intro n b h = rw (lt-ltb b n h)
 

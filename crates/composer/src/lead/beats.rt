@@ -31,7 +31,7 @@ pub(crate) fn remove(b: Beats, k: usize) -> Beats
     Beats { at: at, n: n }
 }
 
-// d, or -d where d is below 0. Not `abs`, which makes 0.0 of -0.0, where `size_of` leaves it.
+// d, or -d where d is below 0. Not `abs`, which makes 0 of -0 too: the definition leaves it.
 fn size(d: f32) -> f32
     ensures { result ≡ size_of d }
 {

@@ -106,9 +106,10 @@ fn nearest(notes: &[u8], target: u8) -> u8
     requires { 0 < length notes.now }
     ensures { result ≡ nearest_of notes.now target }
 {
-    let best = notes
-        .iter()
-        .fold(u16::MAX, |best, x| best.min(rank(target, *x)));
+    let mut best = u16::MAX;
+    for &x in notes {
+        best = best.min(rank(target, x));
+    }
     (best % 256) as u8
 }
 
