@@ -1,11 +1,12 @@
 -- The keys stage: the comp over each bar's chord. Definitions only.
-use Rattle.std.specs.Prelude.{Bool, cond, ◌||◌, List, [], ◌∷◌, ℕ, zero, suc, ◌+◌, ◌*◌, ◌%◌, eqb, get_or, set, replicate, Float}
+use Rattle.std.specs.Prelude.{Bool, cond, ◌||◌, List, [], ◌∷◌, ℕ, zero, suc, ◌+◌, ◌*◌, ◌%◌, eqb, get_or, replicate, Float}
 use Rattle.std.specs.Float.{binary32}
 use Rattle.std.specs.Float.Ieee.{of_bits, add, mul, div}
 use Rattle.laws.specs.Floats.{f32_of}
 use Rattle.streams.specs.Draw.{chance_of, pick_of}
 use Rattle.streams.specs.declared.stream.NoiseStream.{NoiseStream}
 use Rattle.streams.specs.declared.stream.Draw.{Draw}
+use Rattle.composer.specs.Few.{one_more}
 use Rattle.composer.specs.Chord.{root_class_of, in_octave_from, past_chord}
 use Rattle.composer.specs.Note.{no_note}
 use Rattle.composer.specs.Spread.{draw_of, after_of}
@@ -82,7 +83,7 @@ abbrev pub moved_of : KeysLane → NoiseStream → KeysLane
 moved_of l s = record { value = l.value; stream = s }
 
 abbrev pub push_of : KeysLane → Note → KeysLane
-push_of l note = record { value = record { at = set l.value.at l.value.n note; n = l.value.n + 1 }; stream = l.stream }
+push_of l note = record { value = one_more l.value note; stream = l.stream }
 
 -- when an eighth of a bar begins: an off-eighth swings
 abbrev pub grid_at : ℕ → ℕ → Float → Float

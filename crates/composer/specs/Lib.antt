@@ -5,6 +5,7 @@ pub mod Chord
 pub mod Compose
 pub mod Drums
 pub mod Early
+pub mod Few
 pub mod Form
 pub mod Harmony
 pub mod Keys

@@ -1,12 +1,13 @@
 -- A bar's bass notes: the root on its first step, then the root or its fifth, and a pickup into the next bar.
 -- Definitions only.
-use Rattle.std.specs.Prelude.{Bool, false, cond, ◌&&◌, ℕ, zero, suc, ◌+◌, ◌-◌, ◌<◌, eqb, ltb, leb, get_or, set, Float}
+use Rattle.std.specs.Prelude.{Bool, false, cond, ◌&&◌, ℕ, zero, suc, ◌+◌, ◌-◌, ◌<◌, eqb, ltb, leb, get_or, Float}
 use Rattle.std.specs.Float.{binary32}
 use Rattle.std.specs.Float.Ieee.{of_bits, add, sub, mul, lt}
 use Rattle.laws.specs.Floats.{f32_of}
 use Rattle.streams.specs.Draw.{chance_of}
 use Rattle.streams.specs.declared.stream.NoiseStream.{NoiseStream}
 use Rattle.streams.specs.declared.stream.Draw.{Draw}
+use Rattle.composer.specs.Few.{one_more}
 use Rattle.composer.specs.Chord.{in_octave_from}
 use Rattle.composer.specs.Spread.{draw_of, after_of}
 use Rattle.composer.specs.Timing.{sixteenth_beats, bar_s_of, bar_start_of}
@@ -126,7 +127,7 @@ BassLane = Draw (Few Note 104)
 unfoldable pub play_of : BassLane → BarPart → BassStyle → Float → ℕ → BassLane
 play_of l p style beatS i =
     let d = played_note_of l.stream p style beatS i in
-    record { value = record { at = set l.value.at l.value.n d.value; n = l.value.n + 1 }; stream = d.stream }
+    record { value = one_more l.value d.value; stream = d.stream }
 
 -- the bar's first i notes
 unfoldable pub bar_played : BassLane → BarPart → BassStyle → Float → ℕ → BassLane

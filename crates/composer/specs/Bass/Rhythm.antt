@@ -5,6 +5,7 @@ use Rattle.std.specs.Float.Ieee.{of_bits, add, sub, div}
 use Rattle.streams.specs.Draw.{chance_of}
 use Rattle.streams.specs.declared.stream.NoiseStream.{NoiseStream}
 use Rattle.streams.specs.declared.stream.Draw.{Draw}
+use Rattle.composer.specs.Few.{one_more}
 use Rattle.composer.specs.declared.few.Few.{Few}
 
 -- 0.392, 0.226, 0.122, 0.111; 0.191, 0.119, 0.163, 0.117; 0.210, 0.150, 0.128, 0.133; 0.191, 0.131, 0.130, 0.125
@@ -38,7 +39,7 @@ abbrev pub Steps : Type 0
 Steps = Few ℕ 13
 
 abbrev pub more_steps : Steps → ℕ → Steps
-more_steps t step = record { at = set t.at t.n step; n = t.n + 1 }
+more_steps t step = one_more t step
 
 -- a later step, if it sounds
 unfoldable pub one_step_of : Draw Steps → ℕ → Draw Steps

@@ -1,11 +1,12 @@
 -- One bar of the kit: its kicks, its snares, its hats. A hit draws where it lands, then how hard. Definitions only.
-use Rattle.std.specs.Prelude.{Bool, ◌&&◌, cond, ℕ, zero, suc, ◌+◌, ◌%◌, eqb, get_or, set, Float}
+use Rattle.std.specs.Prelude.{Bool, ◌&&◌, cond, ℕ, zero, suc, ◌%◌, eqb, get_or, Float}
 use Rattle.std.specs.Float.{nan, binary32}
 use Rattle.std.specs.Float.Ieee.{of_bits, add, mul, div, ne}
 use Rattle.laws.specs.Floats.{f32_of, fract_of}
 use Rattle.streams.specs.Draw.{chance_of}
 use Rattle.streams.specs.declared.stream.NoiseStream.{NoiseStream}
 use Rattle.streams.specs.declared.stream.Draw.{Draw}
+use Rattle.composer.specs.Few.{one_more}
 use Rattle.composer.specs.Note.{zero32}
 use Rattle.composer.specs.Spread.{draw_of, jitter_of}
 use Rattle.composer.specs.Timing.{swing_delay_of, held_at_zero}
@@ -40,7 +41,7 @@ drawn_on l s = record { value = l.value; stream = s }
 
 -- one hit more, and the stream after its draws
 abbrev pub struck_of : DrumLane → Draw Hit → DrumLane
-struck_of l d = record { value = record { at = set l.value.at l.value.n d.value; n = l.value.n + 1 }; stream = d.stream }
+struck_of l d = record { value = one_more l.value d.value; stream = d.stream }
 
 -- 0.95 and 0.1
 abbrev pub hit_accent : Spread

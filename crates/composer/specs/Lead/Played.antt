@@ -1,9 +1,10 @@
 -- The melody as played: behind the grid, each note with an accent. Definitions only.
-use Rattle.std.specs.Prelude.{ℕ, zero, suc, ◌+◌, get_or, set, replicate, Float}
+use Rattle.std.specs.Prelude.{ℕ, zero, suc, get_or, replicate, Float}
 use Rattle.std.specs.Float.{binary32}
 use Rattle.std.specs.Float.Ieee.{of_bits, add, mul}
 use Rattle.streams.specs.declared.stream.NoiseStream.{NoiseStream}
 use Rattle.streams.specs.declared.stream.Draw.{Draw}
+use Rattle.composer.specs.Few.{one_more}
 use Rattle.composer.specs.Note.{no_note}
 use Rattle.composer.specs.Spread.{draw_of, after_of}
 use Rattle.composer.specs.Timing.{bar_start_of}
@@ -41,7 +42,7 @@ LeadLane = Draw (Few Note 56)
 unfoldable pub play_of : Sung → Float → Float → LeadLane → ℕ → LeadLane
 play_of m beatS dur l i =
     let p = played_note_of (get_or m.notes i past_lead) beatS dur l.stream in
-    record { value = record { at = set l.value.at l.value.n p.value; n = l.value.n + 1 }; stream = p.stream }
+    record { value = one_more l.value p.value; stream = p.stream }
 
 -- the first i notes
 unfoldable pub play_to : Sung → Float → Float → LeadLane → ℕ → LeadLane
