@@ -1,7 +1,7 @@
 // An array of which the first entries count.
-ghost use Rattle.std.specs.Prelude.{◌≡◌, ◌≤◌, take};
+ghost use Rattle.std.specs.Prelude.{◌≡◌, ◌≤◌, length, take};
 
-// The first n entries are in use; what stands behind them is not read.
+// The first n entries of `at` are in use.
 #[derive(Clone, Copy)]
 pub struct Few<T, const N: usize> {
     pub at: [T; N],
@@ -12,7 +12,8 @@ impl<T, const N: usize> Few<T, N> {
     // The entries in use.
     pub fn used(&self) -> &[T]
         requires { self.now.n ≤ N }
-        ensures { result.now ≡ take self.now.n self.now.at }
+        ensures value { result.now ≡ take self.now.n self.now.at }
+        ensures size { length result.now ≡ self.now.n }
     {
         &self.at[..self.n]
     }
