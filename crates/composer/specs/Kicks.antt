@@ -1,8 +1,8 @@
 -- The times of a score's kicks in order, and a score with no drums. Definitions only.
-use Rattle.std.specs.Prelude.{Bool, true, false, cond, List, [], ◌∷◌, leb, length, take, replicate, Float, Result, Ok, Err}
-use Rattle.laws.specs.Lists.{pad}
+use Rattle.std.specs.Prelude.{Bool, true, false, cond, List, [], ◌∷◌, leb, take, replicate, Float, Result, Ok, Err}
 use Rattle.laws.specs.Order.{total_le}
 use Rattle.laws.specs.Sorts.{sort}
+use Rattle.composer.specs.Few.{few_of}
 use Rattle.composer.specs.Note.{zero32, no_hit}
 use Rattle.composer.specs.declared.refusal.Refusal.{Refusal}
 use Rattle.composer.specs.declared.note.Hit.{Hit}
@@ -27,7 +27,7 @@ times_of (h ∷ hs) = cond (is_kick h.kind) (h.at ∷ times_of hs) (times_of hs)
 
 -- a list of at most 98 in the struct
 abbrev pub kick_times : List Float → KickTimes
-kick_times xs = record { at = pad zero32 98 xs; n = length xs }
+kick_times xs = few_of zero32 98 xs
 
 -- a score's kicks in order, as a list
 unfoldable pub kicks_in : Score → List Float

@@ -1,8 +1,8 @@
 // An array of which the first entries count.
-ghost use Rattle.std.specs.Prelude.{◌≡◌, ◌≤◌, take};
+ghost use Rattle.std.specs.Prelude.{◌≡◌, ◌≤◌, length, take};
 
-// The first n entries are in use; what stands behind them is not read. That n is at most N is no ghost field: the
-// definitions make such values of any list, and each would have to prove it.
+// The first n entries of `at` are in use. That n is at most N is no ghost field: the definitions make such values of
+// any list, and each would have to prove it.
 #[derive(Clone, Copy)]
 pub struct Few<T, const N: usize> {
     pub at: [T; N],
@@ -13,7 +13,8 @@ impl<T, const N: usize> Few<T, N> {
     // The entries in use.
     pub fn used(&self) -> &[T]
         requires { self.now.n ≤ N }
-        ensures { result.now ≡ take self.now.n self.now.at }
+        ensures value { result.now ≡ take self.now.n self.now.at }
+        ensures size { length result.now ≡ self.now.n }
     {
         &self.at[..self.n]
     }

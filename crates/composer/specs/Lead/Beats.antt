@@ -1,11 +1,10 @@
 -- A bar's beats in an array: one more, one less, and settled. Definitions only.
-use Rattle.std.specs.Prelude.{Bool, cond, List, [], ◌∷◌, ℕ, zero, suc, length, take, Float}
+use Rattle.std.specs.Prelude.{Bool, cond, List, [], ◌∷◌, ℕ, zero, suc, Float}
 use Rattle.std.specs.Float.{nan, binary32}
 use Rattle.std.specs.Float.Ieee.{of_bits, lt, neg, sub}
-use Rattle.laws.specs.Lists.{pad}
 use Rattle.laws.specs.Order.{total_le}
 use Rattle.laws.specs.Sorts.{sort}
-use Rattle.composer.specs.Few.{one_more}
+use Rattle.composer.specs.Few.{used_of, few_of, one_more}
 use Rattle.composer.specs.Note.{zero32}
 use Rattle.composer.specs.declared.few.Few.{Few}
 
@@ -18,11 +17,11 @@ past_beats = record { at = []; n = 0 }
 
 -- a list of at most seven in the struct
 abbrev pub beats_of : List Float → Beats
-beats_of xs = record { at = pad zero32 7 xs; n = length xs }
+beats_of xs = few_of zero32 7 xs
 
 -- the struct's beats as a list
 abbrev pub list_of : Beats → List Float
-list_of b = take b.n b.at
+list_of b = used_of b
 
 abbrev pub add_of : Beats → Float → Beats
 add_of b x = one_more b x

@@ -1,7 +1,8 @@
 -- A chord's tones in the lead's window, and the one nearest to a note. Definitions only.
-use Rattle.std.specs.Prelude.{Bool, true, false, cond, not, ◌&&◌, List, [], ◌∷◌, ◌++◌, ℕ, zero, suc, ◌+◌, ◌-◌, ◌*◌, ◌%◌, min, leb, ltb, eqb, length, take, get_or, set, replicate}
-use Rattle.laws.specs.Lists.{pad, filter_of}
+use Rattle.std.specs.Prelude.{Bool, true, false, cond, not, ◌&&◌, List, [], ◌∷◌, ◌++◌, ℕ, zero, suc, ◌+◌, ◌-◌, ◌*◌, ◌%◌, min, leb, ltb, eqb, get_or, set, replicate}
+use Rattle.laws.specs.Lists.{filter_of}
 use Rattle.composer.specs.Chord.{root_class_of}
+use Rattle.composer.specs.Few.{used_of, few_of}
 use Rattle.composer.specs.Lead.Scale.{in_pool}
 use Rattle.composer.specs.declared.chord.Chord.{Chord}
 use Rattle.composer.specs.declared.lead.tones.ChordTones.{ChordTones}
@@ -57,13 +58,13 @@ tones_in chord pool avoid lo hi = kept (is_sung_of chord pool avoid) lo (hi + 1 
 
 -- a list of at most 20 in the struct, the first n of an array there, and back
 abbrev pub packed : List ℕ → Tones
-packed xs = record { at = pad 0 20 xs; n = length xs }
+packed xs = few_of 0 20 xs
 
 abbrev pub cleared_of : List ℕ → ℕ → Tones
 cleared_of at n = record { at = set at n 0; n = n }
 
 abbrev pub listed : Tones → List ℕ
-listed t = take t.n t.at
+listed t = used_of t
 
 abbrev pub tones_in_of : List ℕ → List Bool → ℕ → ℕ → ℕ → Tones
 tones_in_of chord pool avoid lo hi = packed (tones_in chord pool avoid lo hi)

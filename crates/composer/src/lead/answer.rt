@@ -47,8 +47,8 @@ fn varied(s: NoiseStream, b: Beats) -> Draw<Beats>
 {
     let mut at = [0.0f32; 7];
     let mut stream = s;
-    for i in 0..b.n {
-        let m = shift(stream, b.at[i]);
+    for (i, &beat) in b.used().iter().enumerate() {
+        let m = shift(stream, beat);
         let d = push(m.stream, m.value);
         at[i] = d.value;
         stream = d.stream;

@@ -1,6 +1,5 @@
 -- The arrays hold the chord's of the notes so far, and those of them that are not its root. Assumes nothing.
-use Rattle.std.proofs.Common.{◌≡◌, ◌∙◌, ap, Bool, ◌&&◌, leb, ℕ, ◌%◌, ◌<◌, List, [], length, get_or, arith}
-use Rattle.std.proofs.lemmas.List.{length-take-le}
+use Rattle.std.proofs.Common.{◌≡◌, ◌∙◌, ap, Bool, ◌&&◌, leb, ℕ, ◌%◌, ◌<◌, List, [], get_or, arith}
 use Rattle.composer.specs.Lead.Tones.{in_chord_of, is_other, is_tone_of}
 use Rattle.composer.proofs.lead.TonesLaws.{tone_is, chosen_none, chosen_on, chosen_all, filtered_both}
 use Rattle.laws.proofs.Bools.{bit_few}
@@ -19,7 +18,6 @@ pub loop-x-preserved : goal.loop-x-preserved
 loop-x-preserved c =
     let l = c.loop-x in
     let xs = c.used-x-items.result.now in
-    let all : length xs ≡ c.args.notes.n = ap length c.used-x-items.ensures ∙ length-take-le c.args.notes.n c.args.notes.at (omega arith) in
     let x = get_or xs l.x-index 0 in
     let chord = c.args.chord.notes in
     let root = c.root_class-root.result in
@@ -47,5 +45,5 @@ returns c =
       chosen_all (is_upper chord root) xs l.x-index l.others l.m c.loop-x-test.false l.invariant.rootless,
       filtered_both (in_chord_of chord) (is_other root) xs,
       c.root_class-root.ensures,
-      c.used-x-items.ensures,
+      c.used-x-items.ensures.value,
     )
