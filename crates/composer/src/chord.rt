@@ -10,7 +10,7 @@ pub const FIFTH: u8 = 7;
 const VOICING_FLOOR: u8 = 48;
 
 // One chord of the grammar in C: its root's pitch class, and its third and seventh in semitones.
-#[derive(Clone, Copy)]
+#[derive(Clone, Copy, Debug, PartialEq, Eq)]
 pub struct Degree {
     pub root_pc: u8,
     pub third: u8,
@@ -18,7 +18,7 @@ pub struct Degree {
 }
 
 // A chord's notes, its root first.
-#[derive(Clone, Copy)]
+#[derive(Clone, Copy, Debug, PartialEq, Eq)]
 pub struct Chord {
     pub notes: [u8; 4],
 }

@@ -15,7 +15,7 @@ pub mod spans;
 
 // An intro, a body of whole phrases that starts on loop bar 0, and an outro. The first `bars` entries
 // of `plays` are the song's bars.
-#[derive(Clone, Copy)]
+#[derive(Clone, Copy, Debug, PartialEq, Eq)]
 pub struct Form {
     pub intro: End,
     pub phrases: u8,

@@ -8,7 +8,7 @@ use streams::draw::{chance, pick};
 use streams::stream::{Draw, NoiseStream};
 
 // The pitch classes that the lead sings: the first n. A `Few` would say `at` where a sheet's field says pitch classes.
-#[derive(Clone, Copy)]
+#[derive(Clone, Copy, Debug, PartialEq, Eq)]
 pub struct Scale {
     pub pcs: [u8; 6],
     pub n: usize,

@@ -22,7 +22,7 @@ pub struct Score {
 }
 
 // How many draws each stage's stream has made.
-#[derive(Clone, Copy)]
+#[derive(Clone, Copy, Debug, PartialEq, Eq)]
 pub struct Counters {
     pub harmony: u64,
     pub tempo: u64,

@@ -10,7 +10,7 @@ use crate::voice::{LeadVoice, lead_voice};
 use streams::draw::pick;
 use streams::stage::Stage;
 
-#[derive(Clone, Copy)]
+#[derive(Clone, Copy, Debug, PartialEq, Eq)]
 pub struct Traits {
     // the scale's first entry
     pub key: u8,

@@ -5,7 +5,7 @@ ghost use Rattle.lessons.specs.Wishes.{is_unknown};
 
 use composer::traits::Traits;
 
-#[derive(Clone, Copy)]
+#[derive(Clone, Copy, Debug, PartialEq, Eq)]
 pub struct Wishes {
     // 0 to 11, the first entry of the scale; 12 for any
     pub key: u8,

@@ -9,7 +9,7 @@ use crate::put::{put_head, put_u8};
 // The most bytes that a sheet has, in edition 2: a buffer of this length serves every seed.
 pub const SHEET_MOST: usize = 5456;
 
-#[derive(Clone, Copy)]
+#[derive(Clone, Copy, Debug, PartialEq, Eq)]
 pub enum Edition {
     One,
     Two,

@@ -29,7 +29,7 @@ fn is_early(beat_s: f32, h: Hit) -> bool
 
 // Which hits of a bar a page shows: all, those that are not early, or those that are. A value and no closure: a page
 // keeps it, and the definitions name it.
-#[derive(Clone, Copy)]
+#[derive(Clone, Copy, Debug, PartialEq, Eq)]
 pub enum Part {
     All,
     Late,
@@ -66,7 +66,7 @@ pub(crate) fn put_part(buf: &mut [u8], at: usize, s: &Score, run: Run, part: Par
 
 // Where a page's hits stand in the lane, and how many they are: the own bar's that are in a part, and the next
 // bar's that are early.
-#[derive(Clone, Copy)]
+#[derive(Clone, Copy, Debug, PartialEq, Eq)]
 pub struct HeardRuns {
     pub own: Run,
     pub part: Part,

@@ -15,7 +15,7 @@ use crate::paged::PagedSong;
 use crate::put::put_head;
 use composer::score::Score;
 
-#[derive(Clone, Copy)]
+#[derive(Clone, Copy, Debug, PartialEq, Eq)]
 pub enum Lane {
     Lead = 5,
     Keys = 6,
@@ -24,7 +24,7 @@ pub enum Lane {
 }
 
 // The events of a lane from `from` on, before `to`.
-#[derive(Clone, Copy)]
+#[derive(Clone, Copy, Debug, PartialEq, Eq)]
 pub struct Run {
     pub from: usize,
     pub to: usize,

@@ -31,7 +31,7 @@ fn chord_size(on: bool) -> usize
 }
 
 // Where the notes of one loop bar stand in each lane.
-#[derive(Clone, Copy)]
+#[derive(Clone, Copy, Debug, PartialEq, Eq)]
 pub struct Runs {
     pub lead: Run,
     pub keys: Run,

@@ -3,8 +3,8 @@ use mathlib.Core.Path.{◌≡◌, refl, sym, ap, ◌∙◌, subst}
 use mathlib.Core.Logic.{inl, inr}
 use mathlib.Core.Bool.{Bool, true, false, cond}
 use mathlib.Core.List.{List}
-use Prim.Native.Nat.{ℕ, zero, suc, ◌+◌, ◌-◌, ◌≤◌, ◌<◌}
-use native.Mathlib.Nat.{add-zero, eq-or-lt_of_le, le_of_suc-le-suc}
+use Prim.Native.Nat.{ℕ, zero, suc, ◌+◌, ◌-◌, ◌*◌, ◌≤◌, ◌<◌}
+use native.Mathlib.Nat.{add-zero, one-mul, zero-mul, eq-or-lt_of_le, le_of_suc-le-suc}
 use native.Mathlib.Numerals.{add-one}
 use native.Mathlib.Omega.{arith}
 use lib.ListN.{get_or, set, length, replicate, length-set}
@@ -139,19 +139,19 @@ steps_rest r (suc i) = rest_on (chance_of (steps_to (root_alone r) i).stream (st
 -- a step that sounds is written, and one that rests writes the 0 that stands there
 one_on : (t : Steps) (s : NoiseStream) (step : ℕ) (c : Draw Bool) → c ≡ chance_of s (step_p step) → Rest t
     → one_step_of (record { value = t; stream = s }) step
-    ≡ record { value = record { at = set t.at t.n (cond c.value step 0); n = t.n + bool_byte c.value }; stream = c.stream }
+    ≡ record { value = record { at = set t.at t.n (bool_byte c.value * step); n = t.n + bool_byte c.value }; stream = c.stream }
 unfolding one_step_of
 one_on t s step c drawn rest = rw (← drawn) (ap (λ (u : Steps). record { value = u; stream = c.stream }) (go c.value))
   where
     kept : set t.at t.n 0 ≡ t.at
     kept = ap (λ (x : ℕ). set t.at t.n x) (sym (rest t.n (omega arith))) ∙ set-get_or t.at t.n 0
 
-    go : (b : Bool) → ◌≡◌ {A = Steps} (cond b (more_steps t step) t) (record { at = set t.at t.n (cond b step 0); n = t.n + bool_byte b })
-    go true = refl
-    go false = rw (kept, add-zero t.n) refl
+    go : (b : Bool) → ◌≡◌ {A = Steps} (cond b (more_steps t step) t) (record { at = set t.at t.n (bool_byte b * step); n = t.n + bool_byte b })
+    go true = rw (one-mul step) refl
+    go false = rw (zero-mul step, kept, add-zero t.n) refl
 
 pub turn_on : (r : Draw ℕ) (i : ℕ) (t : Steps) (s : NoiseStream) (c : Draw Bool) → steps_to (root_alone r) i ≡ record { value = t; stream = s } → c ≡ chance_of s (step_p (i + 4))
-    → steps_to (root_alone r) (i + 1) ≡ record { value = record { at = set t.at t.n (cond c.value (i + 4) 0); n = t.n + bool_byte c.value }; stream = c.stream }
+    → steps_to (root_alone r) (i + 1) ≡ record { value = record { at = set t.at t.n (bool_byte c.value * (i + 4)); n = t.n + bool_byte c.value }; stream = c.stream }
 unfolding steps_to
 turn_on r i t s c so_far drawn = rw (add-one, so_far) (one_on t s (i + 4) c drawn (subst (λ (d : Draw Steps). Rest d.value) so_far (steps_rest r i)))
 

@@ -1,6 +1,6 @@
 -- Beats in an array are a list: it comes back, grows by one, loses one, and is written and thinned by a loop. Assumes nothing.
 use mathlib.Core.Path.{◌≡◌, refl, sym, ap, subst, ◌∙◌}
-use mathlib.Core.Bool.{Bool, true, false, cond}
+use mathlib.Core.Bool.{Bool, true, false, not, cond}
 use mathlib.Core.List.{List, [], ◌∷◌, ◌++◌, append-nil, append_assoc}
 use Prim.Native.Nat.{ℕ, zero, suc, ◌+◌, ◌-◌, ◌<◌, ◌≤◌}
 use native.Mathlib.Numerals.{add-one}
@@ -10,10 +10,11 @@ use lib.ListN.{length, take, drop, get_or, set, replicate, length-append}
 use lib.Seq.{take_at, drop_at, take-suc, set_out, get_or-take, length-take-le}
 use Rattle.std.proofs.lemmas.List.{take-take, drop-take, drop-drop, drop-replicate}
 use lib.Ieee.{Float, nan}
+use mir.Val.{bool_byte}
 use Rattle.laws.specs.Lists.{pad}
 use Rattle.laws.proofs.Lists.{pad_push}
 use Rattle.composer.specs.Note.{zero32}
-use Rattle.composer.specs.Lead.Beats.{Beats, past_beats, beats_of, list_of, add_of, without, near_of, more_of, thin_of}
+use Rattle.composer.specs.Lead.Beats.{Beats, past_beats, beats_of, list_of, add_of, without, near_of, thin_of}
 use Rattle.composer.proofs.lead.SettleLaws.{none_near}
 use Rattle.laws.proofs.Written.{Written, rest_is, written_none, written_over, written_more, written_list}
 
@@ -121,13 +122,13 @@ module _ (a at : List Float) (i n : ℕ) (h : i < length a) (l : n < 7) (some : 
       let c = w.count in
       sym (get_or-take n at (n - 1) nan (omega arith)) ∙ ap (λ (ys : List Float). get_or ys (n - 1) nan) (written_list zero32 7 xs at n w) ∙ sym (last_at nan xs (n - 1) nan (omega arith))
 
-  pub thin_on : (m : ℕ) → m ≡ more_of (get_or a i nan) (get_or at (n - 1) nan) → Written zero32 7 (thin_of nan (take (i + 1) a)) (set at n (get_or a i nan)) (n + m)
-  thin_on m e =
+  pub thin_on : (near : Bool) → near ≡ near_of (get_or a i nan) (get_or at (n - 1) nan) → Written zero32 7 (thin_of nan (take (i + 1) a)) (set at n (get_or a i nan)) (n + bool_byte (not near))
+  thin_on near e =
       let x = get_or a i nan in
       let xs = thin_of nan (take i a) in
       rw (add-one i, take-suc a i nan h, thin_snoc nan (take i a) x, e, last_kept) (go (near_of x (last_of nan xs)))
     where
-      go : (t : Bool) → Written zero32 7 (thin_of nan (take i a) ++ cond t [] (get_or a i nan ∷ [])) (set at n (get_or a i nan)) (n + cond t 0 1)
+      go : (t : Bool) → Written zero32 7 (thin_of nan (take i a) ++ cond t [] (get_or a i nan ∷ [])) (set at n (get_or a i nan)) (n + bool_byte (not t))
       go true = rw (append-nil) (subst (λ (k : ℕ). Written zero32 7 (thin_of nan (take i a)) (set at n (get_or a i nan)) k) (omega arith) (written_over zero32 7 (thin_of nan (take i a)) at n (get_or a i nan) w))
       go false = written_more zero32 7 (thin_of nan (take i a)) at n (get_or a i nan) w l
 

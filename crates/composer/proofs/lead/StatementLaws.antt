@@ -10,6 +10,7 @@ use lib.Dec.{ltb}
 use lib.ListN.{length, take, get_or, set, replicate, length-append}
 use lib.Seq.{get_or-set_same, get_or-set_other}
 use lib.Ieee.{Float}
+use mir.Val.{bool_byte}
 use borrow.Author.Tests.{ltb-true, ltb-false}
 use Rattle.laws.specs.Lists.{list_to}
 use Rattle.streams.specs.Draw.{chance_of}
@@ -19,7 +20,7 @@ use Rattle.composer.specs.Note.{zero32}
 use Rattle.composer.specs.Lead.Beats.{Beats, beats_of, add_of, settled}
 use Rattle.composer.specs.Lead.Grid.{grid_beat_of}
 use Rattle.composer.specs.Lead.Push.{push_of, push_on_of}
-use Rattle.composer.specs.Lead.Statement.{empty_from, notes_of, slot_of, slots_of, pushes_of, settled_of}
+use Rattle.composer.specs.Lead.Statement.{empty_from, slot_of, slots_of, pushes_of, settled_of}
 use Rattle.composer.proofs.lead.BeatsLaws.{list_back, add_beats}
 use Rattle.laws.proofs.Written.{Written, written_none, written_over, written_more, written_list}
 
@@ -113,7 +114,7 @@ unfolding push_on_of
 push_after d x q f = ap (λ (r : Draw Float). r.stream) f
 
 held_on : (d : Draw Beats) (at : List Float) (n : ℕ) (stream : NoiseStream) (x : Float) (q : Draw Float) (b : Bool) → n < 7 → Held d at n stream → q ≡ push_of stream x
-    → Held (foldl push_on_of d (cond b (x ∷ []) [])) (set at n q.value) (n + notes_of b) (cond b q.stream stream)
+    → Held (foldl push_on_of d (cond b (x ∷ []) [])) (set at n q.value) (n + bool_byte b) (cond b q.stream stream)
 held_on d at n stream x q true h t e =
     let f : q ≡ push_of d.stream x = e ∙ ap (λ (s : NoiseStream). push_of s x) t.after in
     let k = t.written.count in
@@ -123,14 +124,14 @@ held_on d at n stream x q false h t e =
     record { xs = t.xs; is = t.is; written = subst (λ (m : ℕ). Written zero32 7 t.xs (set at n q.value) m) k (written_over zero32 7 t.xs at n q.value t.written); after = t.after }
 
 -- a turn of the loop that pushes
-pub held_turn : (sounds : List Bool) (s : NoiseStream) (i : ℕ) (at : List Float) (n : ℕ) (stream : NoiseStream) (q : Draw Float) (m : ℕ) (next : NoiseStream) → n < 7
-    → Held (foldl push_on_of (empty_from s) (kept_to sounds i)) at n stream → q ≡ push_of stream (grid_beat_of i) → m ≡ notes_of (get_or sounds i false)
-    → next ≡ cond (get_or sounds i false) q.stream stream → Held (foldl push_on_of (empty_from s) (kept_to sounds (i + 1))) (set at n q.value) (n + m) next
+pub held_turn : (sounds : List Bool) (s : NoiseStream) (i : ℕ) (at : List Float) (n : ℕ) (stream : NoiseStream) (q : Draw Float) (next : NoiseStream) → n < 7
+    → Held (foldl push_on_of (empty_from s) (kept_to sounds i)) at n stream → q ≡ push_of stream (grid_beat_of i)
+    → next ≡ cond (get_or sounds i false) q.stream stream → Held (foldl push_on_of (empty_from s) (kept_to sounds (i + 1))) (set at n q.value) (n + bool_byte (get_or sounds i false)) next
 unfolding kept_to
-held_turn sounds s i at n stream q m next h t e f g =
+held_turn sounds s i at n stream q next h t e f =
     let x = grid_beat_of i in
     let b = get_or sounds i false in
-    rw (add-one i, foldl-append push_on_of (empty_from s) (kept_to sounds i) (cond b (x ∷ []) []), f, g)
+    rw (add-one i, foldl-append push_on_of (empty_from s) (kept_to sounds i) (cond b (x ∷ []) []), f)
     (held_on (foldl push_on_of (empty_from s) (kept_to sounds i)) at n stream x q b h t e)
 
 -- ---- the bar

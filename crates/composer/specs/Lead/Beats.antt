@@ -49,10 +49,6 @@ unfoldable pub thin_of : Float → List Float → List Float
 thin_of k [] = []
 thin_of k (x ∷ xs) = cond (near_of x k) (thin_of k xs) (x ∷ thin_of x xs)
 
--- how many more are kept at x after k
-abbrev pub more_of : Float → Float → ℕ
-more_of x k = cond (near_of x k) 0 1
-
 -- in order, and none less than half a beat after the last that was kept; nothing is near nan, so the first is kept
 unfoldable pub settled : List Float → List Float
 settled xs = thin_of nan (sort total_le xs)

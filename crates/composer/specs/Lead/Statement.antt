@@ -1,5 +1,5 @@
 -- A bar of the statement. Definitions only.
-use Rattle.std.specs.Prelude.{Bool, cond, ℕ, Float}
+use Rattle.std.specs.Prelude.{cond, Float}
 use mathlib.Core.List.{[], foldl}
 use Rattle.streams.specs.Draw.{chance_of}
 use Rattle.streams.specs.declared.stream.NoiseStream.{NoiseStream}
@@ -13,10 +13,6 @@ use Rattle.composer.specs.declared.style.LeadStyle.{LeadStyle}
 -- no beat yet
 abbrev pub empty_from : NoiseStream → Draw Beats
 empty_from s = record { value = beats_of []; stream = s }
-
--- how many notes a slot has
-abbrev pub notes_of : Bool → ℕ
-notes_of sounds = cond sounds 1 0
 
 -- a slot of the grid sounds with the chance p
 unfoldable pub slot_of : Float → Draw Beats → Float → Draw Beats

@@ -1,5 +1,5 @@
 // A bar's rhythm: the 16ths from its downbeat on which the bass starts a note.
-ghost use Rattle.std.specs.Prelude.{cond, ◌≡◌, ◌<◌};
+ghost use Rattle.std.specs.Prelude.{◌≡◌, ◌<◌};
 ghost use Rattle.composer.specs.Bass.Rhythm.{first_beat_sum, root_step_of, bass_rhythm_of, bass_rhythms_of};
 
 use crate::few::Few;
@@ -44,13 +44,6 @@ fn root_step(s: NoiseStream) -> Draw<u8>
     chance(stream, BASS_STEP_P[3] / left).map(|_| 3)
 }
 
-// A step that sounds, else 0.
-fn sounding(sounds: bool, step: u8) -> u8
-    ensures { result ≡ cond sounds step 0 }
-{
-    if sounds { step } else { 0 }
-}
-
 // The root's step, then each of steps 4 to 15 by its chance.
 fn bass_rhythm(s: NoiseStream) -> Draw<Steps>
     ensures { result ≡ bass_rhythm_of s }
@@ -65,7 +58,7 @@ fn bass_rhythm(s: NoiseStream) -> Draw<Steps>
         let step = i + 4;
         let c = chance(stream, chances[step as usize]);
         // a step that rests writes the 0 that stands there, so that no branch depends on a draw
-        at[n] = sounding(c.value, step);
+        at[n] = c.value as u8 * step;
         n += c.value as usize;
         stream = c.stream;
     }

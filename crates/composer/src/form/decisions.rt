@@ -9,7 +9,7 @@ use streams::draw::picked;
 use streams::stream::{Draw, NoiseStream};
 
 // How a song opens.
-#[derive(Clone, Copy)]
+#[derive(Clone, Copy, Debug, PartialEq, Eq)]
 pub enum Opening {
     // some layers sit out the intro
     Sparse(Plays),
@@ -19,7 +19,7 @@ pub enum Opening {
 }
 
 // How a song closes.
-#[derive(Clone, Copy)]
+#[derive(Clone, Copy, Debug, PartialEq, Eq)]
 pub enum Closing {
     // some layers sit out the outro
     Sparse(Plays),
@@ -38,14 +38,14 @@ pub enum Thinning {
 }
 
 // A phrase's cut: whether it is drawn, the bars it takes, and whether the bass leaves with the beat.
-#[derive(Clone, Copy)]
+#[derive(Clone, Copy, Debug, PartialEq, Eq)]
 pub struct Cut {
     pub on: bool,
     pub bars: u8,
     pub low: bool,
 }
 
-#[derive(Clone, Copy)]
+#[derive(Clone, Copy, Debug, PartialEq, Eq)]
 pub struct Decisions {
     pub opening: Opening,
     pub long_intro: bool,

@@ -2,7 +2,7 @@
 ghost use Rattle.std.specs.Prelude.{◌≡◌};
 ghost use Rattle.composer.specs.Form.Plays.{bits_of};
 
-#[derive(Clone, Copy)]
+#[derive(Clone, Copy, Debug, PartialEq, Eq)]
 pub struct Plays {
     pub pad: bool,
     pub keys: bool,
@@ -15,7 +15,10 @@ impl Plays {
     pub fn bits(self) -> u8
         ensures { result ≡ bits_of self }
     {
-        u8::from(self.pad) | u8::from(self.keys) << 1 | u8::from(self.drums) << 2 | u8::from(self.bass) << 3
+        u8::from(self.pad)
+            | u8::from(self.keys) << 1
+            | u8::from(self.drums) << 2
+            | u8::from(self.bass) << 3
     }
 }
 

@@ -3,6 +3,7 @@ ghost use Rattle.std.specs.Prelude.{◌≡◌, ◌≤◌};
 ghost use Rattle.composer.specs.Form.Spans.{mutes_in, edged_of, spans_by, spans_of, spans_number_of};
 
 use crate::form::Form;
+use crate::form::plays::ALL;
 use crate::form::song::arrange;
 
 #[derive(Clone, Copy, PartialEq, Eq, Debug)]
@@ -26,9 +27,7 @@ fn mutes_any(f: &Form) -> bool
     requires { f.now.bars ≤ 64 }
     ensures { result ≡ mutes_in f.now.plays f.now.bars }
 {
-    f.plays[..f.bars as usize]
-        .iter()
-        .any(|p| !(p.pad & p.keys & p.drums & p.bass))
+    f.plays[..f.bars as usize].iter().any(|p| *p != ALL)
 }
 
 // Whether the form fades, filters or dips somewhere.

@@ -1,7 +1,7 @@
 // A bar's beats in an array.
 ghost use Rattle.std.specs.Prelude.{◌≡◌, ◌<◌, ◌≤◌, length, take};
 ghost use Rattle.std.specs.Float.{nan};
-ghost use Rattle.composer.specs.Lead.Beats.{beats_of, remove_of, size_of, near_of, more_of, thin_of, settled};
+ghost use Rattle.composer.specs.Lead.Beats.{beats_of, remove_of, size_of, near_of, thin_of, settled};
 
 use crate::few::Few;
 use crate::sort::sort_front;
@@ -45,15 +45,6 @@ fn near(x: f32, k: f32) -> bool
     size(x - k) < MIN_GAP_BEATS
 }
 
-// How many more are kept at x: one, unless it is near the last that was, k.
-fn more(x: f32, k: f32) -> usize
-    ensures value { result ≡ more_of x k }
-    ensures upper_bound { result ≤ 1 }
-{
-    let far = !near(x, k);
-    far as usize
-}
-
 // Of the first n of a, the first, and each that is not near the last that was kept.
 fn thinned(a: &[f32], n: usize) -> Beats
     requires { (n ≤ 7) × (n ≤ length a.now) }
@@ -68,9 +59,9 @@ fn thinned(a: &[f32], n: usize) -> Beats
     let mut m: usize = 1;
     for &x in &a[1..n] {
         // Each is written, and the next over it unless it is kept.
-        let k = more(x, at[m - 1]);
+        let far = !near(x, at[m - 1]);
         at[m] = x;
-        m += k;
+        m += far as usize;
     }
     if m == 7 {
         return Beats { at: at, n: m };

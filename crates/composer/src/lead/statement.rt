@@ -1,6 +1,6 @@
 // A bar of the statement: the slots of the grid that sound, pushed and settled.
 ghost use Rattle.std.specs.Prelude.{◌≡◌, cond, ◌≤◌};
-ghost use Rattle.composer.specs.Lead.Statement.{notes_of, statement_bar_of};
+ghost use Rattle.composer.specs.Lead.Statement.{statement_bar_of};
 
 use crate::lead::beats::{Beats, NO_BEATS, settle};
 use crate::lead::grid::grid_beat;
@@ -8,14 +8,6 @@ use crate::lead::push::push;
 use crate::style::LeadStyle;
 use streams::draw::chance;
 use streams::stream::{Draw, NoiseStream};
-
-// How many notes a slot has.
-fn notes(sounds: bool) -> usize
-    ensures value { result ≡ notes_of sounds }
-    ensures upper_bound { result ≤ 1 }
-{
-    sounds as usize
-}
 
 // One of two numbers.
 fn chosen(first: bool, a: u64, b: u64) -> u64
@@ -56,7 +48,7 @@ pub(crate) fn statement_bar(s: NoiseStream, style: LeadStyle) -> Draw<Beats>
         let d = push(stream, grid_beat(i));
         let heard = sounds[i as usize];
         at[n] = d.value;
-        n += notes(heard);
+        n += heard as usize;
         stream = after(heard, d.stream, stream);
     }
     Draw {

@@ -17,7 +17,7 @@ loop-i-preserved c =
     let t : Steps = record { at = l.at; n = l.n } in (
       omega arith,
       omega (arith, bit_few c.chance-c.result.value),
-      rw c.sounding.ensures (turn_on root l.i t l.stream c.chance-c.result l.invariant.2 c.chance-c.ensures),
+      turn_on root l.i t l.stream c.chance-c.result l.invariant.2 c.chance-c.ensures,
     )
 
 pub returns : goal.returns

@@ -1,8 +1,9 @@
 -- The first beat and those of the loop so far are thinned. Assumes nothing.
-use Rattle.std.proofs.Common.{◌≡◌, ◌+◌, ◌-◌, length, get_or, take, drop, arith, length-take, length-drop}
+use Rattle.std.proofs.Common.{◌≡◌, not, ◌+◌, ◌-◌, length, get_or, take, drop, arith, length-take, length-drop}
 use Rattle.std.proofs.lemmas.Grind.{common_steps}
 use Rattle.std.specs.Float.{nan}
 use Rattle.laws.specs.Lists.{pad}
+use Rattle.laws.proofs.Bools.{bit_few}
 use Rattle.composer.specs.Lead.Beats.{thin_of}
 use Rattle.composer.proofs.lead.BeatsLaws.{written_full, written_rest, thin_first, thin_on}
 use Rattle.composer.proofs.lead.beats.thinned.Goals as goal
@@ -22,8 +23,8 @@ loop-x-preserved c =
     let size : length (take (c.args.n - 1) (drop 1 a)) ≡ c.args.n - 1 = omega (arith, length-take (c.args.n - 1) (drop 1 a), length-drop 1 a) in
     record {
       some = omega arith;
-      few = omega arith;
-      kept = rw next (thin_on a l.at (l.x-index + 1) l.m (omega arith) (omega arith) (omega arith) l.invariant.kept c.more-k.result (rw next at c.more-k.ensures.value));
+      few = omega (arith, bit_few (not c.near-far.result));
+      kept = rw next (thin_on a l.at (l.x-index + 1) l.m (omega arith) (omega arith) (omega arith) l.invariant.kept c.near-far.result (rw next at c.near-far.ensures));
     }
 
 pub returns-then-m-eq7-clause-value : goal.returns-then-m-eq7-clause-value

@@ -1,7 +1,8 @@
 -- The rest decides; the first loop tells which slots sound, and the second pushes those. Assumes nothing.
-use Rattle.std.proofs.Common.{◌≡◌, ap, subst, ◌∙◌, ℕ, arith, rules}
+use Rattle.std.proofs.Common.{◌≡◌, ap, subst, ◌∙◌, false, ℕ, get_or, arith, rules}
 use mathlib.Core.List.{foldl}
 use Rattle.laws.specs.Lists.{pad}
+use Rattle.laws.proofs.Bools.{bit_few}
 use Rattle.composer.specs.Lead.Push.{push_of, push_on_of}
 use Rattle.composer.specs.Lead.Statement.{empty_from, statement_bar_of}
 use Rattle.composer.proofs.lead.StatementLaws.{kept_to, Sounding, sounding_none, sounding_on, Held, held_none, held_turn, statement_done}
@@ -29,8 +30,8 @@ loop-i-preserved c =
     let u = c.loop-sound in
     let pushed = c.push-d.ensures ∙ ap (push_of l.stream) c.grid_beat.ensures in
     record {
-      few = omega arith;
-      held = held_turn u.sound-items u.stream l.i l.at l.n l.stream c.push-d.result c.notes-n.result c.after-stream.result (omega arith) l.invariant.held pushed c.notes-n.ensures.value c.after-stream.ensures;
+      few = omega (arith, bit_few (get_or u.sound-items l.i false));
+      held = held_turn u.sound-items u.stream l.i l.at l.n l.stream c.push-d.result c.after-stream.result (omega arith) l.invariant.held pushed c.after-stream.ensures;
     }
 
 pub settle-requires : goal.settle-requires
