@@ -47,12 +47,12 @@ times_sorted xs t a e h =
 -- ---- what a reader wants
 pub kicks_sorted : (score : Score) → Sorted total_le (kicks_in score)
 unfolding kicks_in
-kicks_sorted score = floats_sorted (times_of (take score.hit_count score.hits))
+kicks_sorted score = floats_sorted (times_of (take score.hits.n score.hits.at))
 
 -- every test passes as often as among the kicks
-pub kicks_count : (p : Float → Bool) (score : Score) → count p (kicks_in score) ≡ count p (times_of (take score.hit_count score.hits))
+pub kicks_count : (p : Float → Bool) (score : Score) → count p (kicks_in score) ≡ count p (times_of (take score.hits.n score.hits.at))
 unfolding kicks_in
-kicks_count p score = count_sort total_le p (times_of (take score.hit_count score.hits))
+kicks_count p score = count_sort total_le p (times_of (take score.hits.n score.hits.at))
 
 -- of nan, inf, 0, -0, -1, 0, -inf both zeros are kept, -0 before them, nan above inf
 pub odd_order : sort total_le (nan ∷ inf false ∷ zero32 ∷ of_bits binary32 0x8000_0000 ∷ of_bits binary32 0xbf80_0000 ∷ zero32 ∷ inf true ∷ [])
@@ -61,10 +61,10 @@ unfolding sort insert of_bits to_bits
 odd_order = refl
 
 -- ---- document 01's answers
-pub kicks_given : (score : Score) → score.hit_count ≤ 98 → answered (kicks_of score) ≡ Gives (kick_times (kicks_in score))
+pub kicks_given : (score : Score) → score.hits.n ≤ 98 → answered (kicks_of score) ≡ Gives (kick_times (kicks_in score))
 unfolding kicks_of
-kicks_given score h = rw (le-leb score.hit_count 98 h)
+kicks_given score h = rw (le-leb score.hits.n 98 h)
 
-pub kicks_refused : (score : Score) → 98 < score.hit_count → answered (kicks_of score) ≡ Refuses 4
+pub kicks_refused : (score : Score) → 98 < score.hits.n → answered (kicks_of score) ≡ Refuses 4
 unfolding kicks_of
-kicks_refused score h = rw (lt-leb score.hit_count 98 h)
+kicks_refused score h = rw (lt-leb score.hits.n 98 h)

@@ -36,14 +36,10 @@ song_by style h t l k d b v = record {
     style = style;
     bpm = t.value;
     bar_chords = h.value.bars;
-    lead = l.value.at;
-    lead_count = l.value.n;
-    keys = k.value.at;
-    keys_count = k.value.n;
-    hits = d.value.at;
-    hit_count = d.value.n;
-    bass = b.value.at;
-    bass_count = b.value.n;
+    lead = l.value;
+    keys = k.value;
+    hits = d.value;
+    bass = b.value;
     lead_voice = v.value;
   };
   scale = h.value.scale;
@@ -78,14 +74,10 @@ no_score = record {
   style = Style.Hiphop;
   bpm = zero32;
   bar_chords = replicate 8 no_chord;
-  lead = replicate 56 no_note;
-  lead_count = 0;
-  keys = replicate 128 no_note;
-  keys_count = 0;
-  hits = replicate 98 no_hit;
-  hit_count = 0;
-  bass = replicate 104 no_note;
-  bass_count = 0;
+  lead = record { at = replicate 56 no_note; n = 0 };
+  keys = record { at = replicate 128 no_note; n = 0 };
+  hits = record { at = replicate 98 no_hit; n = 0 };
+  bass = record { at = replicate 104 no_note; n = 0 };
   lead_voice = LeadVoice.EpVel;
 }
 

@@ -13,7 +13,7 @@ is_early beatS h = lt h.at (bar_start_of h.bar beatS)
 
 -- ---- the hits drawn for a loop bar, in the order drawn
 abbrev pub hits_for : Score → ℕ → List Hit
-hits_for s bar = filter_of (λ h. eqb h.bar bar) (take s.hit_count s.hits)
+hits_for s bar = filter_of (λ h. eqb h.bar bar) (take s.hits.n s.hits.at)
 
 abbrev pub early_for : Score → ℕ → List Hit
 early_for s bar = filter_of (is_early (beat_s_of s.bpm)) (hits_for s bar)

@@ -31,10 +31,10 @@ kick_times xs = few_of zero32 98 xs
 
 -- a score's kicks in order, as a list
 unfoldable pub kicks_in : Score → List Float
-kicks_in score = sort total_le (times_of (take score.hit_count score.hits))
+kicks_in score = sort total_le (times_of (take score.hits.n score.hits.at))
 
 unfoldable pub kicks_of : Score → Result KickTimes Refusal
-kicks_of score = cond (leb score.hit_count 98) (Ok (kick_times (kicks_in score))) (Err Refusal.Malformed)
+kicks_of score = cond (leb score.hits.n 98) (Ok (kick_times (kicks_in score))) (Err Refusal.Malformed)
 
 abbrev pub unbeaten_of : Score → Score
 unbeaten_of score = record {
@@ -42,12 +42,8 @@ unbeaten_of score = record {
   bpm = score.bpm;
   bar_chords = score.bar_chords;
   lead = score.lead;
-  lead_count = score.lead_count;
   keys = score.keys;
-  keys_count = score.keys_count;
-  hits = replicate 98 no_hit;
-  hit_count = 0;
+  hits = record { at = replicate 98 no_hit; n = 0 };
   bass = score.bass;
-  bass_count = score.bass_count;
   lead_voice = score.lead_voice;
 }

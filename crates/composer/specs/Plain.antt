@@ -51,7 +51,7 @@ pub record PlainHit (x : Hit) : Type 0 where
 pub record PlainPromise (s : Score) : Type 0 where
   pub bpm : In (f32_of 70) (f32_of 82) s.bpm
   pub bpm_fits : Fits32 s.bpm
-  pub lead : (i : ℕ) → i < s.lead_count → PlainNote (get_or s.lead i past_note)
-  pub keys : (i : ℕ) → i < s.keys_count → PlainNote (get_or s.keys i past_note)
-  pub hits : (i : ℕ) → i < s.hit_count → PlainHit (get_or s.hits i past_hit)
-  pub bass : (i : ℕ) → i < s.bass_count → PlainNote (get_or s.bass i past_note)
+  pub lead : (i : ℕ) → i < s.lead.n → PlainNote (get_or s.lead.at i past_note)
+  pub keys : (i : ℕ) → i < s.keys.n → PlainNote (get_or s.keys.at i past_note)
+  pub hits : (i : ℕ) → i < s.hits.n → PlainHit (get_or s.hits.at i past_hit)
+  pub bass : (i : ℕ) → i < s.bass.n → PlainNote (get_or s.bass.at i past_note)

@@ -31,17 +31,17 @@ pub record Sings (style : Style) (scale : Scale) (midi : ℕ) : Type 0 where
 -- the four lanes
 pub record LanesPromise (s : Score) : Type 0 where
   -- each within its capacity, in the order of its bars 0 to 7, unused entries zero
-  pub lead : Laid past_note no_note note_bar 56 7 s.lead s.lead_count
-  pub keys : Laid past_note no_note note_bar 128 7 s.keys s.keys_count
-  pub hits : Laid past_hit no_hit hit_bar 98 7 s.hits s.hit_count
-  pub bass : Laid past_note no_note note_bar 104 7 s.bass s.bass_count
+  pub lead : Laid past_note no_note note_bar 56 7 s.lead.at s.lead.n
+  pub keys : Laid past_note no_note note_bar 128 7 s.keys.at s.keys.n
+  pub hits : Laid past_hit no_hit hit_bar 98 7 s.hits.at s.hits.n
+  pub bass : Laid past_note no_note note_bar 104 7 s.bass.at s.bass.n
 
 -- at most so many events of each lane in any one bar
 pub record BarsPromise (s : Score) : Type 0 where
-  pub lead : EachAtMost note_bar 7 (take s.lead_count s.lead)
-  pub keys : EachAtMost note_bar 16 (take s.keys_count s.keys)
-  pub hits : EachAtMost hit_bar 13 (take s.hit_count s.hits)
-  pub bass : EachAtMost note_bar 13 (take s.bass_count s.bass)
+  pub lead : EachAtMost note_bar 7 (take s.lead.n s.lead.at)
+  pub keys : EachAtMost note_bar 16 (take s.keys.n s.keys.at)
+  pub hits : EachAtMost hit_bar 13 (take s.hits.n s.hits.at)
+  pub bass : EachAtMost note_bar 13 (take s.bass.n s.bass.at)
 
 -- what writing or summing a score's events draws on: each lane in order, every float a plain number
 pub record EventsPromise (s : Score) : Type 0 where
@@ -68,10 +68,10 @@ pub record ScorePromise (style : Style) (score : Score) (scale : Scale) : Type 0
   -- the lead's roles are its six, and all others the seventh
   pub roles : RolesPromise score
   -- every loop bar has a hit and a bass note
-  pub hit_in_each : (b : ℕ) → b < 8 → Occurs (λ i. hit_bar (get_or score.hits i past_hit)) score.hit_count b
-  pub bass_in_each : (b : ℕ) → b < 8 → Occurs (λ i. note_bar (get_or score.bass i past_note)) score.bass_count b
-  pub lead_sings : (i : ℕ) → i < score.lead_count → Sings style scale (get_or score.lead i past_note).midi
-  pub bass_sounds : (i : ℕ) → i < score.bass_count → SoundsIn score.bar_chords (get_or score.bass i past_note).bar (get_or score.bass i past_note).midi
+  pub hit_in_each : (b : ℕ) → b < 8 → Occurs (λ i. hit_bar (get_or score.hits.at i past_hit)) score.hits.n b
+  pub bass_in_each : (b : ℕ) → b < 8 → Occurs (λ i. note_bar (get_or score.bass.at i past_note)) score.bass.n b
+  pub lead_sings : (i : ℕ) → i < score.lead.n → Sings style scale (get_or score.lead.at i past_note).midi
+  pub bass_sounds : (i : ℕ) → i < score.bass.n → SoundsIn score.bar_chords (get_or score.bass.at i past_note).bar (get_or score.bass.at i past_note).midi
   -- five or six pitch classes, in an array of six with zeros behind them
   pub scale_least : 5 ≤ scale.n
   pub scale_most : scale.n ≤ 6
@@ -83,8 +83,8 @@ pub record ScorePromise (style : Style) (score : Score) (scale : Scale) : Type 0
 pub record DrawsPromise (style : Style) (score : Score) (counters : Counters) : Type 0 where
   pub harmony : counters.harmony ≡ 3
   pub tempo : counters.tempo ≡ 1
-  pub keys : counters.keys ≡ key_draws_of style score.keys_count
-  pub drums : counters.drums ≡ drum_draws_of style score.hit_count
+  pub keys : counters.keys ≡ key_draws_of style score.keys.n
+  pub drums : counters.drums ≡ drum_draws_of style score.hits.n
   pub voice : counters.voice ≡ 1
 
 -- what `compose` answers for the style and the seed is the song c

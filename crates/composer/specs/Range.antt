@@ -13,6 +13,6 @@ pub record Within (lo hi n : ℕ) : Type 0 where
 pub record RangePromise (s : Score) : Type 0 where
   pub chord_size : (b : ℕ) → b < 8 → length (get_or s.bar_chords b past_chord).notes ≡ 4
   pub chords : (b k : ℕ) → b < 8 → k < 4 → Within 48 70 (get_or (get_or s.bar_chords b past_chord).notes k 0)
-  pub lead : (i : ℕ) → i < s.lead_count → Within 60 81 (get_or s.lead i past_note).midi
-  pub keys : (i : ℕ) → i < s.keys_count → Within 48 73 (get_or s.keys i past_note).midi
-  pub bass : (i : ℕ) → i < s.bass_count → Within 30 42 (get_or s.bass i past_note).midi
+  pub lead : (i : ℕ) → i < s.lead.n → Within 60 81 (get_or s.lead.at i past_note).midi
+  pub keys : (i : ℕ) → i < s.keys.n → Within 48 73 (get_or s.keys.at i past_note).midi
+  pub bass : (i : ℕ) → i < s.bass.n → Within 30 42 (get_or s.bass.at i past_note).midi

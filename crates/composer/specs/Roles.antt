@@ -22,12 +22,12 @@ Backs x = x.role ≡ NoteRole.Backing
 
 -- of every note in use
 pub record RolesPromise (s : Score) : Type 0 where
-  pub lead : (i : ℕ) → i < s.lead_count → Leads (get_or s.lead i past_note)
-  pub keys : (i : ℕ) → i < s.keys_count → Backs (get_or s.keys i past_note)
-  pub bass : (i : ℕ) → i < s.bass_count → Backs (get_or s.bass i past_note)
+  pub lead : (i : ℕ) → i < s.lead.n → Leads (get_or s.lead.at i past_note)
+  pub keys : (i : ℕ) → i < s.keys.n → Backs (get_or s.keys.at i past_note)
+  pub bass : (i : ℕ) → i < s.bass.n → Backs (get_or s.bass.at i past_note)
 
 -- and every lead note of the song of a style and a seed has its role by the rule of `melody`
 abbrev pub RolesTold : Style → ℕ → Type 0
 RolesTold style seed =
     let score = (composed_of style seed).score in
-    LeadTold (stream_of Stage.Lead seed) (harmony_of (stream_of Stage.Harmony seed) style).value style score.lead score.lead_count
+    LeadTold (stream_of Stage.Lead seed) (harmony_of (stream_of Stage.Harmony seed) style).value style score.lead.at score.lead.n

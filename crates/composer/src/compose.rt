@@ -5,6 +5,7 @@ ghost use Rattle.composer.specs.Compose.{beat_s_of, composed_of, no_score, style
 use crate::bass::bass;
 use crate::chord::NO_CHORD;
 use crate::drums::drums;
+use crate::few::Few;
 use crate::harmony::{Scale, harmony_of};
 use crate::keys::keys;
 use crate::lead::lead;
@@ -53,23 +54,15 @@ fn composed_of(style: Style, seed: u64) -> Composed
     let vd = lead_voice(vs, style);
     let bars = h.bars;
     let scale = h.scale;
-    let lead_notes = ld.value.at;
-    let keys_notes = kd.value.at;
-    let hits = dd.value.at;
-    let bass_notes = bd.value.at;
     let voice = vd.value;
     let score = Score {
         style: style,
         bpm: td.value,
         bar_chords: bars,
-        lead: lead_notes,
-        lead_count: ld.value.n,
-        keys: keys_notes,
-        keys_count: kd.value.n,
-        hits: hits,
-        hit_count: dd.value.n,
-        bass: bass_notes,
-        bass_count: bd.value.n,
+        lead: ld.value,
+        keys: kd.value,
+        hits: dd.value,
+        bass: bd.value,
         lead_voice: voice,
     };
     let counters = Counters {
@@ -92,23 +85,14 @@ fn composed_of(style: Style, seed: u64) -> Composed
 pub fn no_score() -> Score
     ensures { result ≡ no_score }
 {
-    let bars = [NO_CHORD; 8];
-    let lead = [NO_NOTE; 56];
-    let keys = [NO_NOTE; 128];
-    let hits = [NO_HIT; 98];
-    let bass = [NO_NOTE; 104];
     Score {
         style: Style::Hiphop,
         bpm: 0.0,
-        bar_chords: bars,
-        lead: lead,
-        lead_count: 0,
-        keys: keys,
-        keys_count: 0,
-        hits: hits,
-        hit_count: 0,
-        bass: bass,
-        bass_count: 0,
+        bar_chords: [NO_CHORD; 8],
+        lead: Few { at: [NO_NOTE; 56], n: 0 },
+        keys: Few { at: [NO_NOTE; 128], n: 0 },
+        hits: Few { at: [NO_HIT; 98], n: 0 },
+        bass: Few { at: [NO_NOTE; 104], n: 0 },
         lead_voice: LeadVoice::EpVel,
     }
 }

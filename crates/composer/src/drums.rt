@@ -39,7 +39,7 @@ fn bar_of(number: u8, beat_s: f32, wobble: f32) -> Bar
 // Each bar draws its wobble first, then its kicks, its snares and its hats. An eighth that may not
 // strike draws nothing, one that stays silent draws only that.
 fn lay_groove(s: NoiseStream, g: Groove, beat_s: f32) -> DrumLane
-    requires { g.snare_count ≤ 2 }
+    requires { g.snares.n ≤ 2 }
     ensures { result ≡ lay_groove_of s g beat_s }
 {
     let mut hits = [NO_HIT; 98];
@@ -56,8 +56,8 @@ fn lay_groove(s: NoiseStream, g: Groove, beat_s: f32) -> DrumLane
             count += 1;
             stream = d.stream;
         }
-        for i in 0..g.snare_count {
-            let d = snare_hit(stream, bar, g.snares[i], g.snare_gain);
+        for i in 0..g.snares.n {
+            let d = snare_hit(stream, bar, g.snares.at[i], g.snare_gain);
             hits[count] = d.value;
             count += 1;
             stream = d.stream;

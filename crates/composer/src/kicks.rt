@@ -28,16 +28,16 @@ fn heard(hits: [Hit; 98], n: usize) -> KickTimes
     KickTimes { at: at, n: count }
 }
 
-// The times of the kicks among the first `hit_count` hits, ascending: equal ones kept, -0 before 0, a NaN last. A
+// The times of the kicks among the hits in use, ascending: equal ones kept, -0 before 0, a NaN last. A
 // count of more than 98 is refused with 4.
 pub fn kicks(score: Score) -> Result<KickTimes, Refusal>
     ensures { result ≡ kicks_of score }
 {
-    let n = score.hit_count;
+    let n = score.hits.n;
     if n > 98 {
         return Err(Refusal::Malformed);
     }
-    let t = heard(score.hits, n);
+    let t = heard(score.hits.at, n);
     let mut at = t.at;
     sort_front(&mut at, t.n);
     Ok(KickTimes { at, n: t.n })
@@ -48,8 +48,6 @@ pub fn unbeaten(score: Score) -> Score
     ensures { result ≡ unbeaten_of score }
 {
     let mut out = score;
-    let none = [NO_HIT; 98];
-    out.hits = none;
-    out.hit_count = 0;
+    out.hits = Few { at: [NO_HIT; 98], n: 0 };
     out
 }

@@ -1,23 +1,20 @@
 // A song's score: tempo, chords, the four lanes and the lead's voice.
 use crate::chord::Chord;
+use crate::few::Few;
 use crate::note::{Hit, Note};
 use crate::style::Style;
 use crate::voice::LeadVoice;
 
-// The first `_count` entries of a lane are its events, in the order drawn; the others are zero.
+// The entries of a lane in use are its events, in the order drawn; the others are zero.
 #[derive(Clone, Copy)]
 pub struct Score {
     pub style: Style,
     pub bpm: f32,
     pub bar_chords: [Chord; 8],
-    pub lead: [Note; 56],
-    pub lead_count: usize,
-    pub keys: [Note; 128],
-    pub keys_count: usize,
-    pub hits: [Hit; 98],
-    pub hit_count: usize,
-    pub bass: [Note; 104],
-    pub bass_count: usize,
+    pub lead: Few<Note, 56>,
+    pub keys: Few<Note, 128>,
+    pub hits: Few<Hit, 98>,
+    pub bass: Few<Note, 104>,
     pub lead_voice: LeadVoice,
 }
 

@@ -89,10 +89,10 @@ module _ (p : Hit → Bool) (hs : List Hit) (i : ℕ) (past : Hit) (h : i < leng
 -- ---- two runs of hits as the field
 module _ (s : Score) (h : HeardRuns) (within : HitsWithin s h) where
   abbrev own : List Hit
-  own = hits_in s h.part (run_of h.own s.hits)
+  own = hits_in s h.part (run_of h.own s.hits.at)
 
   abbrev next : List Hit
-  next = hits_in s Part.Early (run_of h.next s.hits)
+  next = hits_in s Part.Early (run_of h.next s.hits.at)
 
   pub parts_count : h.count ≡ length own + length next
   parts_count = within.count ∙ length-append own next
@@ -112,29 +112,29 @@ own_shown beatS on false hs = filter_shown (λ h. not (is_early beatS h)) on hs
 
 module _ (s : Score) (promise : LanesPromise s) where
   abbrev drawn : List Hit
-  drawn = take s.hit_count s.hits
+  drawn = take s.hits.n s.hits.at
 
   below_same : (bar : ℕ) → count (earlier bar) (map hit_bar drawn) ≡ count (λ h. ltb (hit_bar h) bar) drawn
   below_same bar = count_map hit_bar (earlier bar) (λ h. ltb (hit_bar h) bar) (λ h. refl) drawn
 
   -- the run of a bar's hits is what was drawn for it
-  run_hits_lem : (on : Bool) (bar : ℕ) → run_of (run_in s Lane.Hits on bar) s.hits ≡ shown on (hits_for s bar)
+  run_hits_lem : (on : Bool) (bar : ℕ) → run_of (run_in s Lane.Hits on bar) s.hits.at ≡ shown on (hits_for s bar)
   unfolding run_in
   run_hits_lem true bar =
-      let room : s.hit_count ≤ length s.hits = omega (arith, promise.hits.few, promise.hits.size) in
+      let room : s.hits.n ≤ length s.hits.at = omega (arith, promise.hits.few, promise.hits.size) in
       let a = count (λ h. ltb (hit_bar h) bar) drawn in
       let b = count (λ h. ltb (hit_bar h) (bar + 1)) drawn in
-      let few : a + (b - a) ≤ s.hit_count = omega (arith, length-take-le s.hit_count s.hits room, count_most (λ h. ltb (hit_bar h) bar) drawn, count_most (λ h. ltb (hit_bar h) (bar + 1)) drawn) in
-      let sorted = rises_sorted hit_bar past_hit s.hits s.hit_count 7 room promise.hits.rises in
-      rw (below_same bar, below_same (bar + 1)) (sym (run_in_take s.hits s.hit_count a (b - a) few) ∙ run_of_key hit_bar bar drawn sorted)
+      let few : a + (b - a) ≤ s.hits.n = omega (arith, length-take-le s.hits.n s.hits.at room, count_most (λ h. ltb (hit_bar h) bar) drawn, count_most (λ h. ltb (hit_bar h) (bar + 1)) drawn) in
+      let sorted = rises_sorted hit_bar past_hit s.hits.at s.hits.n 7 room promise.hits.rises in
+      rw (below_same bar, below_same (bar + 1)) (sym (run_in_take s.hits.at s.hits.n a (b - a) few) ∙ run_of_key hit_bar bar drawn sorted)
   run_hits_lem false bar = refl
 
-  own_is : (f : Form) (b : ℕ) → hits_in s (own_part b) (run_of (drum_run_of s f b) s.hits) ≡ own_hits s f b
+  own_is : (f : Form) (b : ℕ) → hits_in s (own_part b) (run_of (drum_run_of s f b) s.hits.at) ≡ own_hits s f b
   own_is f b =
       ap (λ (l : List Hit). hits_in s (own_part b) l) (run_hits_lem (plays_drums f b) (loop_bar_of f b))
       ∙ own_shown (beat_s_of s.bpm) (plays_drums f b) (eqb b 0) (hits_for s (loop_bar_of f b))
 
-  moved_is : (f : Form) (b : ℕ) → hits_in s Part.Early (run_of (drum_run_of s f b) s.hits) ≡ moved_hits s f b
+  moved_is : (f : Form) (b : ℕ) → hits_in s Part.Early (run_of (drum_run_of s f b) s.hits.at) ≡ moved_hits s f b
   moved_is f b =
       ap (λ (l : List Hit). hits_in s Part.Early l) (run_hits_lem (plays_drums f b) (loop_bar_of f b))
       ∙ filter_shown (is_early (beat_s_of s.bpm)) (plays_drums f b) (hits_for s (loop_bar_of f b))
@@ -143,13 +143,13 @@ module _ (s : Score) (promise : LanesPromise s) where
   unfolding page_hits
   runs_hits f b = rw (own_is f b, moved_is f (b + 1))
 
-  pub runs_count : (f : Form) (b : ℕ) → length (hits_in s (own_part b) (run_of (drum_run_of s f b) s.hits)) + length (hits_in s Part.Early (run_of (drum_run_of s f (b + 1)) s.hits)) ≡ length (page_hits s f b)
-  runs_count f b = sym (length-append (hits_in s (own_part b) (run_of (drum_run_of s f b) s.hits)) (hits_in s Part.Early (run_of (drum_run_of s f (b + 1)) s.hits))) ∙ ap length (runs_hits f b)
+  pub runs_count : (f : Form) (b : ℕ) → length (hits_in s (own_part b) (run_of (drum_run_of s f b) s.hits.at)) + length (hits_in s Part.Early (run_of (drum_run_of s f (b + 1)) s.hits.at)) ≡ length (page_hits s f b)
+  runs_count f b = sym (length-append (hits_in s (own_part b) (run_of (drum_run_of s f b) s.hits.at)) (hits_in s Part.Early (run_of (drum_run_of s f (b + 1)) s.hits.at))) ∙ ap length (runs_hits f b)
 
 -- ---- at most
 module _ (s : Score) (each : BarsPromise s) (early : EarlyPromise s) where
   bar_most : (bar : ℕ) → length (hits_for s bar) ≤ 13
-  bar_most bar = omega (arith, count_filter (λ h. eqb (hit_bar h) bar) (take s.hit_count s.hits), each.hits bar)
+  bar_most bar = omega (arith, count_filter (λ h. eqb (hit_bar h) bar) (take s.hits.n s.hits.at), each.hits bar)
 
   own_most : (f : Form) (b : ℕ) → length (own_hits s f b) ≤ 13
   own_most f b = shown_most (plays_drums f b) _ 13 (go (eqb b 0))

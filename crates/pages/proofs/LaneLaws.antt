@@ -63,10 +63,10 @@ hit_bar_lem h = refl
 -- edition 1 has the events of edition 2 without their roles; a hit is shorter than that
 pub events_without_roles : (s : Score) (lane : Lane) → map (take 14) (events_of Edition.Two s lane) ≡ events_of Edition.One s lane
 unfolding note_bytes sound_bytes hit_bytes
-events_without_roles s Lane.Lead = map-map (take 14) (note_bytes Edition.Two) (take s.lead_count s.lead)
-events_without_roles s Lane.Keys = map-map (take 14) (note_bytes Edition.Two) (take s.keys_count s.keys)
-events_without_roles s Lane.Hits = map-map (take 14) hit_bytes (take s.hit_count s.hits)
-events_without_roles s Lane.Bass = map-map (take 14) (note_bytes Edition.Two) (take s.bass_count s.bass)
+events_without_roles s Lane.Lead = map-map (take 14) (note_bytes Edition.Two) (take s.lead.n s.lead.at)
+events_without_roles s Lane.Keys = map-map (take 14) (note_bytes Edition.Two) (take s.keys.n s.keys.at)
+events_without_roles s Lane.Hits = map-map (take 14) hit_bytes (take s.hits.n s.hits.at)
+events_without_roles s Lane.Bass = map-map (take 14) (note_bytes Edition.Two) (take s.bass.n s.bass.at)
 
 -- ---- all of a lane's
 notes_wide : (edition : Edition) (ns : List Note) → All (λ e. length e ≡ note_width edition) (map (note_bytes edition) ns)
@@ -77,10 +77,10 @@ pub hits_wide : (hs : List Hit) → All (λ e. length e ≡ 10) (map hit_bytes h
 hits_wide hs = all_map hit_bytes (λ e. length e ≡ 10) hs (all_every (λ h. length (hit_bytes h) ≡ 10) hit_width hs)
 
 pub widths : (edition : Edition) (s : Score) (lane : Lane) → All (λ e. length e ≡ width_of edition lane) (events_of edition s lane)
-widths edition s Lane.Lead = notes_wide edition (take s.lead_count s.lead)
-widths edition s Lane.Keys = notes_wide edition (take s.keys_count s.keys)
-widths edition s Lane.Hits = hits_wide (take s.hit_count s.hits)
-widths edition s Lane.Bass = notes_wide edition (take s.bass_count s.bass)
+widths edition s Lane.Lead = notes_wide edition (take s.lead.n s.lead.at)
+widths edition s Lane.Keys = notes_wide edition (take s.keys.n s.keys.at)
+widths edition s Lane.Hits = hits_wide (take s.hits.n s.hits.at)
+widths edition s Lane.Bass = notes_wide edition (take s.bass.n s.bass.at)
 
 -- ---- events written one after another
 -- one more
@@ -140,10 +140,10 @@ module _ {A : Type 0} (bar : A → ℕ) (bytes : A → List ℕ) (same : (x : A)
       sorted_map bar bar_in bytes same (take n xs) (rises_sorted bar past xs n top (omega (arith, laid.size, laid.few)) laid.rises)
 
 bars_are : (edition : Edition) (s : Score) (lane : Lane) → map bar_in (events_of edition s lane) ≡ bars_of s lane
-bars_are edition s Lane.Lead = first_bytes note_bar (note_bytes edition) (note_bar_lem edition) (take s.lead_count s.lead)
-bars_are edition s Lane.Keys = first_bytes note_bar (note_bytes edition) (note_bar_lem edition) (take s.keys_count s.keys)
-bars_are edition s Lane.Hits = first_bytes hit_bar hit_bytes hit_bar_lem (take s.hit_count s.hits)
-bars_are edition s Lane.Bass = first_bytes note_bar (note_bytes edition) (note_bar_lem edition) (take s.bass_count s.bass)
+bars_are edition s Lane.Lead = first_bytes note_bar (note_bytes edition) (note_bar_lem edition) (take s.lead.n s.lead.at)
+bars_are edition s Lane.Keys = first_bytes note_bar (note_bytes edition) (note_bar_lem edition) (take s.keys.n s.keys.at)
+bars_are edition s Lane.Hits = first_bytes hit_bar hit_bytes hit_bar_lem (take s.hits.n s.hits.at)
+bars_are edition s Lane.Bass = first_bytes note_bar (note_bytes edition) (note_bar_lem edition) (take s.bass.n s.bass.at)
 
 -- counted among the bars, or among the events by their first bytes
 count_bars : (edition : Edition) (s : Score) (lane : Lane) (v : ℕ) → count (earlier v) (bars_of s lane) ≡ count (λ e. ltb (bar_in e) v) (events_of edition s lane)
@@ -158,10 +158,10 @@ whole_run es n e = take_all (n - 0) es (omega arith)
 
 module _ (s : Score) (p : SizedLanes s) where
   pub length_events : (edition : Edition) (lane : Lane) → length (events_of edition s lane) ≡ count_in s lane
-  length_events edition Lane.Lead = length_sized (note_bytes edition) s.lead s.lead_count p.lead
-  length_events edition Lane.Keys = length_sized (note_bytes edition) s.keys s.keys_count p.keys
-  length_events edition Lane.Hits = length_sized hit_bytes s.hits s.hit_count p.hits
-  length_events edition Lane.Bass = length_sized (note_bytes edition) s.bass s.bass_count p.bass
+  length_events edition Lane.Lead = length_sized (note_bytes edition) s.lead.at s.lead.n p.lead
+  length_events edition Lane.Keys = length_sized (note_bytes edition) s.keys.at s.keys.n p.keys
+  length_events edition Lane.Hits = length_sized hit_bytes s.hits.at s.hits.n p.hits
+  length_events edition Lane.Bass = length_sized (note_bytes edition) s.bass.at s.bass.n p.bass
 
   length_bars : (lane : Lane) → length (bars_of s lane) ≡ count_in s lane
   length_bars lane = rw (← bars_are Edition.Two s lane, length-map) (length_events Edition.Two lane)
@@ -174,10 +174,10 @@ module _ (s : Score) (p : SizedLanes s) where
 
 module _ (s : Score) (p : LanesPromise s) where
   events_sorted : (edition : Edition) (lane : Lane) → Sorted (by bar_in) (events_of edition s lane)
-  events_sorted edition Lane.Lead = laid_sorted note_bar (note_bytes edition) (note_bar_lem edition) s.lead s.lead_count p.lead
-  events_sorted edition Lane.Keys = laid_sorted note_bar (note_bytes edition) (note_bar_lem edition) s.keys s.keys_count p.keys
-  events_sorted edition Lane.Hits = laid_sorted hit_bar hit_bytes hit_bar_lem s.hits s.hit_count p.hits
-  events_sorted edition Lane.Bass = laid_sorted note_bar (note_bytes edition) (note_bar_lem edition) s.bass s.bass_count p.bass
+  events_sorted edition Lane.Lead = laid_sorted note_bar (note_bytes edition) (note_bar_lem edition) s.lead.at s.lead.n p.lead
+  events_sorted edition Lane.Keys = laid_sorted note_bar (note_bytes edition) (note_bar_lem edition) s.keys.at s.keys.n p.keys
+  events_sorted edition Lane.Hits = laid_sorted hit_bar hit_bytes hit_bar_lem s.hits.at s.hits.n p.hits
+  events_sorted edition Lane.Bass = laid_sorted note_bar (note_bytes edition) (note_bar_lem edition) s.bass.at s.bass.n p.bass
 
   -- the run of a bar's events is what was drawn for it
   pub run_drawn : (edition : Edition) (lane : Lane) (on : Bool) (bar : ℕ) → run_of (run_in s lane on bar) (events_of edition s lane) ≡ shown on (drawn_for bar (events_of edition s lane))

@@ -121,9 +121,9 @@ bars_most s p bar hits each few =
     omega (
       arith,
       chord_most p.pad,
-      shown_most p.keys (drawn_for bar (events_of Edition.Two s Lane.Lead)) 7 (omega (arith, drawn_count note_bar (note_bytes Edition.Two) (note_bar_lem Edition.Two) (take s.lead_count s.lead) bar, each.lead bar)),
-      shown_most p.keys (drawn_for bar (events_of Edition.Two s Lane.Keys)) 16 (omega (arith, drawn_count note_bar (note_bytes Edition.Two) (note_bar_lem Edition.Two) (take s.keys_count s.keys) bar, each.keys bar)),
-      shown_most p.bass (drawn_for bar (events_of Edition.Two s Lane.Bass)) 13 (omega (arith, drawn_count note_bar (note_bytes Edition.Two) (note_bar_lem Edition.Two) (take s.bass_count s.bass) bar, each.bass bar)),
+      shown_most p.keys (drawn_for bar (events_of Edition.Two s Lane.Lead)) 7 (omega (arith, drawn_count note_bar (note_bytes Edition.Two) (note_bar_lem Edition.Two) (take s.lead.n s.lead.at) bar, each.lead bar)),
+      shown_most p.keys (drawn_for bar (events_of Edition.Two s Lane.Keys)) 16 (omega (arith, drawn_count note_bar (note_bytes Edition.Two) (note_bar_lem Edition.Two) (take s.keys.n s.keys.at) bar, each.keys bar)),
+      shown_most p.bass (drawn_for bar (events_of Edition.Two s Lane.Bass)) 13 (omega (arith, drawn_count note_bar (note_bytes Edition.Two) (note_bar_lem Edition.Two) (take s.bass.n s.bass.at) bar, each.bass bar)),
     )
 
 -- ---- of every style's number, seed and bar; a refusal writes nothing

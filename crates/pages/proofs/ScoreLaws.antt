@@ -74,24 +74,24 @@ module _ (style : Style) (s : Score) (scale : Scale) (promise : ScorePromise sty
 
   pub bass_some : 0 < length (joined (drawn_for bar (events_of Edition.Two s Lane.Bass)))
   bass_some =
-      omega (arith, shown_size s Lane.Bass true bar, drawn_some note_bar (note_bytes Edition.Two) (note_bar_lem Edition.Two) past_note s.bass_count s.bass bar (omega (arith, promise.lanes.bass.few, promise.lanes.bass.size)) (promise.bass_in_each bar h))
+      omega (arith, shown_size s Lane.Bass true bar, drawn_some note_bar (note_bytes Edition.Two) (note_bar_lem Edition.Two) past_note s.bass.n s.bass.at bar (omega (arith, promise.lanes.bass.few, promise.lanes.bass.size)) (promise.bass_in_each bar h))
 
   -- note i of its lead, where it is shown
   pub lead_shown : (on : Bool) (i : ℕ) → 15 * i < length (joined (shown on (drawn_for bar (events_of Edition.Two s Lane.Lead)))) → Sings style scale (get_or (joined (shown on (drawn_for bar (events_of Edition.Two s Lane.Lead)))) (15 * i + 5) 0)
-  lead_shown = note_shown (Sings style scale) 5 (omega arith) (λ x. x.midi) midi_at s.lead_count s.lead bar (λ i k e. promise.lead_sings i k)
+  lead_shown = note_shown (Sings style scale) 5 (omega arith) (λ x. x.midi) midi_at s.lead.n s.lead.at bar (λ i k e. promise.lead_sings i k)
 
   pub bass_shown : (on : Bool) (i : ℕ) → 15 * i < length (joined (shown on (drawn_for bar (events_of Edition.Two s Lane.Bass))))
       → SoundsIn s.bar_chords bar (get_or (joined (shown on (drawn_for bar (events_of Edition.Two s Lane.Bass)))) (15 * i + 5) 0)
   bass_shown =
-      note_shown (SoundsIn s.bar_chords bar) 5 (omega arith) (λ x. x.midi) midi_at s.bass_count s.bass bar
-      (λ i k e. subst (λ (b : ℕ). SoundsIn s.bar_chords b (get_or s.bass i past_note).midi) e (promise.bass_sounds i k))
+      note_shown (SoundsIn s.bar_chords bar) 5 (omega arith) (λ x. x.midi) midi_at s.bass.n s.bass.at bar
+      (λ i k e. subst (λ (b : ℕ). SoundsIn s.bar_chords b (get_or s.bass.at i past_note).midi) e (promise.bass_sounds i k))
 
   -- and their roles
   pub lead_role : (on : Bool) (i : ℕ) → 15 * i < length (joined (shown on (drawn_for bar (events_of Edition.Two s Lane.Lead)))) → get_or (joined (shown on (drawn_for bar (events_of Edition.Two s Lane.Lead)))) (15 * i + 14) 0 < 6
-  lead_role = note_shown (λ r. r < 6) 14 (omega arith) (λ x. role_number_of x.role) role_at_lem s.lead_count s.lead bar (λ i k e. promise.roles.lead i k)
+  lead_role = note_shown (λ r. r < 6) 14 (omega arith) (λ x. role_number_of x.role) role_at_lem s.lead.n s.lead.at bar (λ i k e. promise.roles.lead i k)
 
   pub keys_role : (on : Bool) (i : ℕ) → 15 * i < length (joined (shown on (drawn_for bar (events_of Edition.Two s Lane.Keys)))) → get_or (joined (shown on (drawn_for bar (events_of Edition.Two s Lane.Keys)))) (15 * i + 14) 0 ≡ 6
-  keys_role = note_shown (λ r. r ≡ 6) 14 (omega arith) (λ x. role_number_of x.role) role_at_lem s.keys_count s.keys bar (λ i k e. ap role_number_of (promise.roles.keys i k))
+  keys_role = note_shown (λ r. r ≡ 6) 14 (omega arith) (λ x. role_number_of x.role) role_at_lem s.keys.n s.keys.at bar (λ i k e. ap role_number_of (promise.roles.keys i k))
 
   pub bass_role : (on : Bool) (i : ℕ) → 15 * i < length (joined (shown on (drawn_for bar (events_of Edition.Two s Lane.Bass)))) → get_or (joined (shown on (drawn_for bar (events_of Edition.Two s Lane.Bass)))) (15 * i + 14) 0 ≡ 6
-  bass_role = note_shown (λ r. r ≡ 6) 14 (omega arith) (λ x. role_number_of x.role) role_at_lem s.bass_count s.bass bar (λ i k e. ap role_number_of (promise.roles.bass i k))
+  bass_role = note_shown (λ r. r ≡ 6) 14 (omega arith) (λ x. role_number_of x.role) role_at_lem s.bass.n s.bass.at bar (λ i k e. ap role_number_of (promise.roles.bass i k))

@@ -38,20 +38,20 @@ width_of edition Lane.Hits = 10
 width_of edition Lane.Bass = note_width edition
 
 abbrev pub count_in : Score → Lane → ℕ
-count_in s Lane.Lead = s.lead_count
-count_in s Lane.Keys = s.keys_count
-count_in s Lane.Hits = s.hit_count
-count_in s Lane.Bass = s.bass_count
+count_in s Lane.Lead = s.lead.n
+count_in s Lane.Keys = s.keys.n
+count_in s Lane.Hits = s.hits.n
+count_in s Lane.Bass = s.bass.n
 
 abbrev pub lane_size : Edition → Score → Lane → ℕ
 lane_size edition s lane = width_of edition lane * count_in s lane
 
 -- a lane's events in bytes, in the order drawn
 abbrev pub events_of : Edition → Score → Lane → List (List ℕ)
-events_of edition s Lane.Lead = map (note_bytes edition) (take s.lead_count s.lead)
-events_of edition s Lane.Keys = map (note_bytes edition) (take s.keys_count s.keys)
-events_of edition s Lane.Hits = map hit_bytes (take s.hit_count s.hits)
-events_of edition s Lane.Bass = map (note_bytes edition) (take s.bass_count s.bass)
+events_of edition s Lane.Lead = map (note_bytes edition) (take s.lead.n s.lead.at)
+events_of edition s Lane.Keys = map (note_bytes edition) (take s.keys.n s.keys.at)
+events_of edition s Lane.Hits = map hit_bytes (take s.hits.n s.hits.at)
+events_of edition s Lane.Bass = map (note_bytes edition) (take s.bass.n s.bass.at)
 
 abbrev pub run_of : {A : Type 0} → Run → List A → List A
 run_of run es = take (run.to - run.from) (drop run.from es)
@@ -78,10 +78,10 @@ drawn_for bar es = filter_of (λ e. eqb (bar_in e) bar) es
 
 -- the bars of a lane's events
 abbrev pub bars_of : Score → Lane → List ℕ
-bars_of s Lane.Lead = map note_bar (take s.lead_count s.lead)
-bars_of s Lane.Keys = map note_bar (take s.keys_count s.keys)
-bars_of s Lane.Hits = map hit_bar (take s.hit_count s.hits)
-bars_of s Lane.Bass = map note_bar (take s.bass_count s.bass)
+bars_of s Lane.Lead = map note_bar (take s.lead.n s.lead.at)
+bars_of s Lane.Keys = map note_bar (take s.keys.n s.keys.at)
+bars_of s Lane.Hits = map hit_bar (take s.hits.n s.hits.at)
+bars_of s Lane.Bass = map note_bar (take s.bass.n s.bass.at)
 
 abbrev pub earlier : ℕ → ℕ → Bool
 earlier bar b = ltb b bar

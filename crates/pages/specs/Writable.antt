@@ -16,10 +16,10 @@ pub record Sized {A : Type 0} (cap : ℕ) (xs : List A) (n : ℕ) : Type 0 where
   pub few : n ≤ cap
 
 pub record SizedLanes (s : Score) : Type 0 where
-  pub lead : Sized 56 s.lead s.lead_count
-  pub keys : Sized 128 s.keys s.keys_count
-  pub hits : Sized 98 s.hits s.hit_count
-  pub bass : Sized 104 s.bass s.bass_count
+  pub lead : Sized 56 s.lead.at s.lead.n
+  pub keys : Sized 128 s.keys.at s.keys.n
+  pub hits : Sized 98 s.hits.at s.hits.n
+  pub bass : Sized 104 s.bass.at s.bass.n
 
 pub record FiniteNote (x : Note) : Type 0 where
   pub at : T (finite x.at)
@@ -33,10 +33,10 @@ pub record FiniteHit (x : Hit) : Type 0 where
 -- the tempo, and every note and hit in use, of either sign
 pub record FiniteEvents (s : Score) : Type 0 where
   pub bpm : T (finite s.bpm)
-  pub lead : (i : ℕ) → i < s.lead_count → FiniteNote (get_or s.lead i past_note)
-  pub keys : (i : ℕ) → i < s.keys_count → FiniteNote (get_or s.keys i past_note)
-  pub hits : (i : ℕ) → i < s.hit_count → FiniteHit (get_or s.hits i past_hit)
-  pub bass : (i : ℕ) → i < s.bass_count → FiniteNote (get_or s.bass i past_note)
+  pub lead : (i : ℕ) → i < s.lead.n → FiniteNote (get_or s.lead.at i past_note)
+  pub keys : (i : ℕ) → i < s.keys.n → FiniteNote (get_or s.keys.at i past_note)
+  pub hits : (i : ℕ) → i < s.hits.n → FiniteHit (get_or s.hits.at i past_hit)
+  pub bass : (i : ℕ) → i < s.bass.n → FiniteNote (get_or s.bass.at i past_note)
 
 -- what a writer of a sheet asks of a score: no order of its events, no range, no sign
 pub record Writable (s : Score) : Type 0 where

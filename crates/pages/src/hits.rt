@@ -50,11 +50,11 @@ fn in_part(part: Part, beat_s: f32, h: Hit) -> bool
 pub(crate) fn put_part(buf: &mut [u8], at: usize, s: &Score, run: Run, part: Part) -> usize
     requires writable { Writable s.now }
     requires in_lane { InLane s.now Lane.Hits run }
-    requires room { at + 10 * length (hits_in s.now part (run_of run s.now.hits)) ≤ length buf.old }
-    ensures { Wrote buf.old buf.new at result (10 * length (hits_in s.now part (run_of run s.now.hits))) (joined (map hit_bytes (hits_in s.now part (run_of run s.now.hits)))) }
+    requires room { at + 10 * length (hits_in s.now part (run_of run s.now.hits.at)) ≤ length buf.old }
+    ensures { Wrote buf.old buf.new at result (10 * length (hits_in s.now part (run_of run s.now.hits.at))) (joined (map hit_bytes (hits_in s.now part (run_of run s.now.hits.at)))) }
 {
     let beat_s = beat_s_of(s.bpm);
-    let hits = &s.hits[run.from..run.to];
+    let hits = &s.hits.at[run.from..run.to];
     let mut o = at;
     for h in hits {
         if in_part(part, beat_s, *h) {
@@ -85,12 +85,12 @@ impl<'a> PagedSong<'a> {
     // How many hits of a run are in a part.
     fn part_count(&self, run: Run, part: Part) -> usize
         requires { InLane self.now.score.now Lane.Hits run }
-        ensures value { result ≡ length (hits_in self.now.score.now part (run_of run self.now.score.now.hits)) }
+        ensures value { result ≡ length (hits_in self.now.score.now part (run_of run self.now.score.now.hits.at)) }
         ensures upper_bound { result ≤ 98 }
     {
         let s = self.score;
         let beat_s = beat_s_of(s.bpm);
-        let hits = &s.hits[run.from..run.to];
+        let hits = &s.hits.at[run.from..run.to];
         hits.iter().filter(|h| in_part(part, beat_s, **h)).count()
     }
 

@@ -56,10 +56,10 @@ impl Lane {
         ensures { result ≡ count_in s.now self }
     {
         match self {
-            Lane::Lead => s.lead_count,
-            Lane::Keys => s.keys_count,
-            Lane::Hits => s.hit_count,
-            Lane::Bass => s.bass_count,
+            Lane::Lead => s.lead.n,
+            Lane::Keys => s.keys.n,
+            Lane::Hits => s.hits.n,
+            Lane::Bass => s.bass.n,
         }
     }
 }
@@ -86,10 +86,10 @@ fn put_events(buf: &mut [u8], at: usize, edition: Edition, s: &Score, lane: Lane
     ensures { Wrote buf.old buf.new at result (width_of edition lane * (run.to - run.from)) (joined (run_of run (events_of edition s.now lane))) }
 {
     match lane {
-        Lane::Lead => put_each(buf, at, edition, &s.lead[..s.lead_count], run),
-        Lane::Keys => put_each(buf, at, edition, &s.keys[..s.keys_count], run),
-        Lane::Hits => put_each(buf, at, edition, &s.hits[..s.hit_count], run),
-        Lane::Bass => put_each(buf, at, edition, &s.bass[..s.bass_count], run),
+        Lane::Lead => put_each(buf, at, edition, &s.lead.at[..s.lead.n], run),
+        Lane::Keys => put_each(buf, at, edition, &s.keys.at[..s.keys.n], run),
+        Lane::Hits => put_each(buf, at, edition, &s.hits.at[..s.hits.n], run),
+        Lane::Bass => put_each(buf, at, edition, &s.bass.at[..s.bass.n], run),
     }
 }
 
@@ -130,10 +130,10 @@ impl<'a> PagedSong<'a> {
     {
         let s = self.score;
         match lane {
-            Lane::Lead => run_of_bar(&s.lead[..s.lead_count], bar),
-            Lane::Keys => run_of_bar(&s.keys[..s.keys_count], bar),
-            Lane::Hits => run_of_bar(&s.hits[..s.hit_count], bar),
-            Lane::Bass => run_of_bar(&s.bass[..s.bass_count], bar),
+            Lane::Lead => run_of_bar(&s.lead.at[..s.lead.n], bar),
+            Lane::Keys => run_of_bar(&s.keys.at[..s.keys.n], bar),
+            Lane::Hits => run_of_bar(&s.hits.at[..s.hits.n], bar),
+            Lane::Bass => run_of_bar(&s.bass.at[..s.bass.n], bar),
         }
     }
 

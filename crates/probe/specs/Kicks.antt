@@ -51,12 +51,8 @@ score_by words =
       bpm = s.bpm;
       bar_chords = s.bar_chords;
       lead = s.lead;
-      lead_count = s.lead_count;
       keys = s.keys;
-      keys_count = s.keys_count;
-      hits = list_to (hit_by words) 98;
-      hit_count = get_or words 0 0;
+      hits = record { at = list_to (hit_by words) 98; n = get_or words 0 0 };
       bass = s.bass;
-      bass_count = s.bass_count;
       lead_voice = s.lead_voice;
     }

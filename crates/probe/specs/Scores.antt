@@ -35,7 +35,7 @@ told_of song = result_unwrap_or song no_song
 abbrev pub numbers_of : ℕ → Score → List ℕ
 numbers_of refusal s =
     refusal ∷ style_number_of s.style ∷ to_bits binary32 s.bpm ∷ voice_number_of s.lead_voice
-    ∷ s.lead_count ∷ s.keys_count ∷ s.hit_count ∷ s.bass_count ∷ []
+    ∷ s.lead.n ∷ s.keys.n ∷ s.hits.n ∷ s.bass.n ∷ []
 
 abbrev pub counters_of : Counters → List ℕ
 counters_of c = c.harmony ∷ c.tempo ∷ c.lead ∷ c.keys ∷ c.drums ∷ c.bass ∷ c.voice ∷ []
@@ -66,10 +66,10 @@ head_word_of refusal c k =
 -- 56 lead notes, 128 keys notes, 98 hits, 104 bass notes
 unfoldable pub lane_word_of : Score → ℕ → ℕ
 lane_word_of s k =
-    cond (ltb k 280) (get_or (note_words_of (get_or s.lead (k / 5) past_note)) (k % 5) 0)
-    (cond (ltb k 920) (get_or (note_words_of (get_or s.keys ((k - 280) / 5) past_note)) ((k - 280) % 5) 0)
-    (cond (ltb k 1312) (get_or (hit_words_of (get_or s.hits ((k - 920) / 4) past_hit)) ((k - 920) % 4) 0)
-    (cond (ltb k 1832) (get_or (note_words_of (get_or s.bass ((k - 1312) / 5) past_note)) ((k - 1312) % 5) 0) 0)))
+    cond (ltb k 280) (get_or (note_words_of (get_or s.lead.at (k / 5) past_note)) (k % 5) 0)
+    (cond (ltb k 920) (get_or (note_words_of (get_or s.keys.at ((k - 280) / 5) past_note)) ((k - 280) % 5) 0)
+    (cond (ltb k 1312) (get_or (hit_words_of (get_or s.hits.at ((k - 920) / 4) past_hit)) ((k - 920) % 4) 0)
+    (cond (ltb k 1832) (get_or (note_words_of (get_or s.bass.at ((k - 1312) / 5) past_note)) ((k - 1312) % 5) 0) 0)))
 
 unfoldable pub song_word_of : ℕ → Composed → ℕ → ℕ
 song_word_of refusal c k = cond (ltb k 62) (head_word_of refusal c k) (lane_word_of c.score (k - 62))

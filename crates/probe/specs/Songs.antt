@@ -56,7 +56,7 @@ bits_sum plays = sum (map bits_of plays)
 abbrev pub score_sum : Score → Scale → ℕ
 score_sum s scale =
     to_bits binary32 s.bpm + voice_number_of s.lead_voice + (chords_sum s.bar_chords + scale_sum scale)
-    + (notes_sum (take s.lead_count s.lead) + notes_sum (take s.keys_count s.keys) + hits_sum (take s.hit_count s.hits) + notes_sum (take s.bass_count s.bass))
+    + (notes_sum (take s.lead.n s.lead.at) + notes_sum (take s.keys.n s.keys.at) + hits_sum (take s.hits.n s.hits.at) + notes_sum (take s.bass.n s.bass.at))
 
 abbrev pub form_sum : Form → ℕ
 form_sum f = ends_sum f + bits_sum (take f.bars f.plays)

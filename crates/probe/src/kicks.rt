@@ -12,6 +12,7 @@ ghost use Rattle.probe.specs.Kicks.{times_word_of, kicks_word_of, kind_by, hit_b
 use crate::forms::outcome_number;
 use crate::scores::no_song;
 use composer::compose::compose;
+use composer::few::Few;
 use composer::kicks::{KickTimes, kicks};
 use composer::note::{DrumKind, Hit};
 use composer::refusal::Refusal;
@@ -112,9 +113,10 @@ fn score_by(words: &[u64]) -> Score
     ensures { result ≡ score_by words.now }
 {
     let mut score = compose(0, 0).unwrap_or(no_song()).score;
-    let hits = hits_by(words);
-    score.hits = hits;
-    score.hit_count = word_at(words, 0) as usize;
+    score.hits = Few {
+        at: hits_by(words),
+        n: word_at(words, 0) as usize,
+    };
     score
 }
 

@@ -46,10 +46,10 @@ fn numbers(refusal: u64, s: &Score) -> [u64; 8]
         s.style.number() as u64,
         bits_of(s.bpm) as u64,
         s.lead_voice.number() as u64,
-        s.lead_count as u64,
-        s.keys_count as u64,
-        s.hit_count as u64,
-        s.bass_count as u64,
+        s.lead.n as u64,
+        s.keys.n as u64,
+        s.hits.n as u64,
+        s.bass.n as u64,
     ]
 }
 
@@ -129,16 +129,16 @@ fn lane_word(s: &Score, k: usize) -> u64
     ensures { result ≡ lane_word_of s.now k }
 {
     if k < 280 {
-        return note_words(&s.lead[k / 5])[k % 5];
+        return note_words(&s.lead.at[k / 5])[k % 5];
     }
     if k < 920 {
-        return note_words(&s.keys[(k - 280) / 5])[(k - 280) % 5];
+        return note_words(&s.keys.at[(k - 280) / 5])[(k - 280) % 5];
     }
     if k < 1312 {
-        return hit_words(&s.hits[(k - 920) / 4])[(k - 920) % 4];
+        return hit_words(&s.hits.at[(k - 920) / 4])[(k - 920) % 4];
     }
     if k < 1832 {
-        return note_words(&s.bass[(k - 1312) / 5])[(k - 1312) % 5];
+        return note_words(&s.bass.at[(k - 1312) / 5])[(k - 1312) % 5];
     }
     0
 }

@@ -95,14 +95,10 @@ blank_song edition size = record {
     style = Style.Hiphop;
     bpm = zero32;
     bar_chords = replicate 8 no_chord;
-    lead = blank_notes edition true 56 (size 4 / note_width edition);
-    lead_count = size 4 / note_width edition;
-    keys = blank_notes edition false 128 (size 5 / note_width edition);
-    keys_count = size 5 / note_width edition;
-    hits = replicate 98 no_hit;
-    hit_count = size 6 / 10;
-    bass = blank_notes edition false 104 (size 7 / note_width edition);
-    bass_count = size 7 / note_width edition;
+    lead = record { at = blank_notes edition true 56 (size 4 / note_width edition); n = size 4 / note_width edition };
+    keys = record { at = blank_notes edition false 128 (size 5 / note_width edition); n = size 5 / note_width edition };
+    hits = record { at = replicate 98 no_hit; n = size 6 / 10 };
+    bass = record { at = blank_notes edition false 104 (size 7 / note_width edition); n = size 7 / note_width edition };
     lead_voice = LeadVoice.EpVel;
   };
   scale = record { pcs = replicate 6 0; n = size 3 };

@@ -110,7 +110,7 @@ module _ (v : Song) (p : StoredSong v) where
   -- the drum of hit i
   kind_known : (i : ℕ) → i < size_at bytes 6 / 10 → byte_at bytes (body_at bytes 6 + 10 * i + 1) ≤ 3
   kind_known i h =
-      let hits = take v.score.hit_count v.score.hits in
+      let hits = take v.score.hits.n v.score.hits.at in
       let body = joined (map hit_bytes hits) in
       let all : All (λ e. (length e ≡ 10) × (get_or e 1 0 ≤ 3)) (map hit_bytes hits) = all_map hit_bytes (λ e. (length e ≡ 10) × (get_or e 1 0 ≤ 3)) hits (all_every (λ x. (length (hit_bytes x) ≡ 10) × (get_or (hit_bytes x) 1 0 ≤ 3)) hit_known hits) in
       let e : body_at bytes 6 + 10 * i + 1 ≡ body_at bytes 6 + (10 * i + 1) = omega arith in

@@ -31,11 +31,11 @@ use Rattle.reader.proofs.SongLaws.{as_fields, hits_size}
 use Rattle.reader.proofs.ValueLaws.{value_valid, value_typed, value_stored}
 
 -- how many bytes of hits a value's sheet has
-hits_bytes : (v : Song) → Value v → size_at (sheet_of v) 6 ≡ 10 * v.score.hit_count
+hits_bytes : (v : Song) → Value v → size_at (sheet_of v) 6 ≡ 10 * v.score.hits.n
 hits_bytes v p = ap (λ (b : List ℕ). size_at b 6) (as_fields v) ∙ hits_size v (value_stored v p)
 
 -- an edition tells all hits
-hits_kept : (edition : Edition) (s : Score) → (told_in edition s).hit_count ≡ s.hit_count
+hits_kept : (edition : Edition) (s : Score) → (told_in edition s).hits.n ≡ s.hits.n
 hits_kept Edition.One s = refl
 hits_kept Edition.Two s = refl
 

@@ -62,10 +62,10 @@ pub record StoredChord (c : Chord) : Type 0 where
 pub record StoredSong (v : Song) : Type 0 where
   pub bpm : Fits32 v.score.bpm
   pub chords : Kept StoredChord no_chord 8 v.score.bar_chords 8
-  pub lead : Kept (StoredNote v.edition true) no_note 56 v.score.lead v.score.lead_count
-  pub keys : Kept (StoredNote v.edition false) no_note 128 v.score.keys v.score.keys_count
-  pub hits : Kept StoredHit no_hit 98 v.score.hits v.score.hit_count
-  pub bass : Kept (StoredNote v.edition false) no_note 104 v.score.bass v.score.bass_count
+  pub lead : Kept (StoredNote v.edition true) no_note 56 v.score.lead.at v.score.lead.n
+  pub keys : Kept (StoredNote v.edition false) no_note 128 v.score.keys.at v.score.keys.n
+  pub hits : Kept StoredHit no_hit 98 v.score.hits.at v.score.hits.n
+  pub bass : Kept (StoredNote v.edition false) no_note 104 v.score.bass.at v.score.bass.n
   pub scale : Kept Any 0 6 v.scale.pcs v.scale.n
   pub plays : Kept Any silent 64 v.form.plays v.form.bars
 
@@ -300,41 +300,41 @@ module _ (v : Song) (p : StoredSong v) where
   scale_read = rw (scale_size, scale_list, p.scale.rest)
 
   -- the lanes
-  pub lead_size : size_at bytes 4 ≡ note_width e * v.score.lead_count
-  lead_size = lane_size_lem (note_width e) (note_at e true) (note_bytes e) (StoredNote e true) (λ n q. note_width_lem e n) (note_shifts e true) (note_back e true) no_note 56 v.score.lead v.score.lead_count p.lead (lead_stands v)
+  pub lead_size : size_at bytes 4 ≡ note_width e * v.score.lead.n
+  lead_size = lane_size_lem (note_width e) (note_at e true) (note_bytes e) (StoredNote e true) (λ n q. note_width_lem e n) (note_shifts e true) (note_back e true) no_note 56 v.score.lead.at v.score.lead.n p.lead (lead_stands v)
 
-  lead_count : note_count_in bytes 4 ≡ v.score.lead_count
-  lead_count = rw (edition_read v, lead_size) (count_back e v.score.lead_count)
+  lead_count : note_count_in bytes 4 ≡ v.score.lead.n
+  lead_count = rw (edition_read v, lead_size) (count_back e v.score.lead.n)
 
-  lead_read : pad no_note 56 (notes_at (edition_in bytes) true bytes (body_at bytes 4) (note_count_in bytes 4)) ≡ v.score.lead
-  lead_read = ap (λ (x : Edition). pad no_note 56 (notes_at x true bytes (body_at bytes 4) (note_count_in bytes 4))) (edition_read v) ∙ lane_back (note_width e) (note_at e true) (note_bytes e) (StoredNote e true) (λ n q. note_width_lem e n) (note_shifts e true) (note_back e true) no_note 56 v.score.lead v.score.lead_count p.lead (lead_stands v) (note_count_in bytes 4) lead_count
+  lead_read : pad no_note 56 (notes_at (edition_in bytes) true bytes (body_at bytes 4) (note_count_in bytes 4)) ≡ v.score.lead.at
+  lead_read = ap (λ (x : Edition). pad no_note 56 (notes_at x true bytes (body_at bytes 4) (note_count_in bytes 4))) (edition_read v) ∙ lane_back (note_width e) (note_at e true) (note_bytes e) (StoredNote e true) (λ n q. note_width_lem e n) (note_shifts e true) (note_back e true) no_note 56 v.score.lead.at v.score.lead.n p.lead (lead_stands v) (note_count_in bytes 4) lead_count
 
-  pub keys_size : size_at bytes 5 ≡ note_width e * v.score.keys_count
-  keys_size = lane_size_lem (note_width e) (note_at e false) (note_bytes e) (StoredNote e false) (λ n q. note_width_lem e n) (note_shifts e false) (note_back e false) no_note 128 v.score.keys v.score.keys_count p.keys (keys_stand v)
+  pub keys_size : size_at bytes 5 ≡ note_width e * v.score.keys.n
+  keys_size = lane_size_lem (note_width e) (note_at e false) (note_bytes e) (StoredNote e false) (λ n q. note_width_lem e n) (note_shifts e false) (note_back e false) no_note 128 v.score.keys.at v.score.keys.n p.keys (keys_stand v)
 
-  keys_count : note_count_in bytes 5 ≡ v.score.keys_count
-  keys_count = rw (edition_read v, keys_size) (count_back e v.score.keys_count)
+  keys_count : note_count_in bytes 5 ≡ v.score.keys.n
+  keys_count = rw (edition_read v, keys_size) (count_back e v.score.keys.n)
 
-  keys_read : pad no_note 128 (notes_at (edition_in bytes) false bytes (body_at bytes 5) (note_count_in bytes 5)) ≡ v.score.keys
-  keys_read = ap (λ (x : Edition). pad no_note 128 (notes_at x false bytes (body_at bytes 5) (note_count_in bytes 5))) (edition_read v) ∙ lane_back (note_width e) (note_at e false) (note_bytes e) (StoredNote e false) (λ n q. note_width_lem e n) (note_shifts e false) (note_back e false) no_note 128 v.score.keys v.score.keys_count p.keys (keys_stand v) (note_count_in bytes 5) keys_count
+  keys_read : pad no_note 128 (notes_at (edition_in bytes) false bytes (body_at bytes 5) (note_count_in bytes 5)) ≡ v.score.keys.at
+  keys_read = ap (λ (x : Edition). pad no_note 128 (notes_at x false bytes (body_at bytes 5) (note_count_in bytes 5))) (edition_read v) ∙ lane_back (note_width e) (note_at e false) (note_bytes e) (StoredNote e false) (λ n q. note_width_lem e n) (note_shifts e false) (note_back e false) no_note 128 v.score.keys.at v.score.keys.n p.keys (keys_stand v) (note_count_in bytes 5) keys_count
 
-  pub hits_size : size_at bytes 6 ≡ 10 * v.score.hit_count
-  hits_size = lane_size_lem 10 hit_at hit_bytes StoredHit (λ h q. hit_width h) hit_shifts hit_back no_hit 98 v.score.hits v.score.hit_count p.hits (hits_stand v)
+  pub hits_size : size_at bytes 6 ≡ 10 * v.score.hits.n
+  hits_size = lane_size_lem 10 hit_at hit_bytes StoredHit (λ h q. hit_width h) hit_shifts hit_back no_hit 98 v.score.hits.at v.score.hits.n p.hits (hits_stand v)
 
-  hit_count : hit_count_in bytes 6 ≡ v.score.hit_count
+  hit_count : hit_count_in bytes 6 ≡ v.score.hits.n
   hit_count = omega (arith, hits_size)
 
-  hits_read : pad no_hit 98 (hits_at bytes (body_at bytes 6) (hit_count_in bytes 6)) ≡ v.score.hits
-  hits_read = lane_back 10 hit_at hit_bytes StoredHit (λ h q. hit_width h) hit_shifts hit_back no_hit 98 v.score.hits v.score.hit_count p.hits (hits_stand v) (hit_count_in bytes 6) hit_count
+  hits_read : pad no_hit 98 (hits_at bytes (body_at bytes 6) (hit_count_in bytes 6)) ≡ v.score.hits.at
+  hits_read = lane_back 10 hit_at hit_bytes StoredHit (λ h q. hit_width h) hit_shifts hit_back no_hit 98 v.score.hits.at v.score.hits.n p.hits (hits_stand v) (hit_count_in bytes 6) hit_count
 
-  pub bass_size : size_at bytes 7 ≡ note_width e * v.score.bass_count
-  bass_size = lane_size_lem (note_width e) (note_at e false) (note_bytes e) (StoredNote e false) (λ n q. note_width_lem e n) (note_shifts e false) (note_back e false) no_note 104 v.score.bass v.score.bass_count p.bass (bass_stands v)
+  pub bass_size : size_at bytes 7 ≡ note_width e * v.score.bass.n
+  bass_size = lane_size_lem (note_width e) (note_at e false) (note_bytes e) (StoredNote e false) (λ n q. note_width_lem e n) (note_shifts e false) (note_back e false) no_note 104 v.score.bass.at v.score.bass.n p.bass (bass_stands v)
 
-  bass_count : note_count_in bytes 7 ≡ v.score.bass_count
-  bass_count = rw (edition_read v, bass_size) (count_back e v.score.bass_count)
+  bass_count : note_count_in bytes 7 ≡ v.score.bass.n
+  bass_count = rw (edition_read v, bass_size) (count_back e v.score.bass.n)
 
-  bass_read : pad no_note 104 (notes_at (edition_in bytes) false bytes (body_at bytes 7) (note_count_in bytes 7)) ≡ v.score.bass
-  bass_read = ap (λ (x : Edition). pad no_note 104 (notes_at x false bytes (body_at bytes 7) (note_count_in bytes 7))) (edition_read v) ∙ lane_back (note_width e) (note_at e false) (note_bytes e) (StoredNote e false) (λ n q. note_width_lem e n) (note_shifts e false) (note_back e false) no_note 104 v.score.bass v.score.bass_count p.bass (bass_stands v) (note_count_in bytes 7) bass_count
+  bass_read : pad no_note 104 (notes_at (edition_in bytes) false bytes (body_at bytes 7) (note_count_in bytes 7)) ≡ v.score.bass.at
+  bass_read = ap (λ (x : Edition). pad no_note 104 (notes_at x false bytes (body_at bytes 7) (note_count_in bytes 7))) (edition_read v) ∙ lane_back (note_width e) (note_at e false) (note_bytes e) (StoredNote e false) (λ n q. note_width_lem e n) (note_shifts e false) (note_back e false) no_note 104 v.score.bass.at v.score.bass.n p.bass (bass_stands v) (note_count_in bytes 7) bass_count
 
   score_read : score_in bytes ≡ v.score
   unfolding score_in

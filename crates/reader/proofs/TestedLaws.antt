@@ -97,18 +97,18 @@ hits_told xs cap n e =
 pub record ScoreTold (edition : Edition) (s : Score) : Type 0 where
   pub bpm : finite s.bpm ≡ true
   pub chords : chords_within s.bar_chords ≡ true
-  pub lead : notes_within edition true s.lead 56 s.lead_count ≡ true
-  pub keys : notes_within edition false s.keys 128 s.keys_count ≡ true
-  pub hits : hits_within s.hits 98 s.hit_count ≡ true
-  pub bass : notes_within edition false s.bass 104 s.bass_count ≡ true
+  pub lead : notes_within edition true s.lead.at 56 s.lead.n ≡ true
+  pub keys : notes_within edition false s.keys.at 128 s.keys.n ≡ true
+  pub hits : hits_within s.hits.at 98 s.hits.n ≡ true
+  pub bass : notes_within edition false s.bass.at 104 s.bass.n ≡ true
 
 pub score_told : (edition : Edition) (s : Score) → score_within edition s ≡ true → ScoreTold edition s
 unfolding score_within
 score_told edition s ok =
-    let lead = notes_within edition true s.lead 56 s.lead_count in
-    let keys = notes_within edition false s.keys 128 s.keys_count in
-    let hits = hits_within s.hits 98 s.hit_count in
-    let a = both (finite s.bpm && chords_within s.bar_chords && lead && keys && hits) (notes_within edition false s.bass 104 s.bass_count) ok in
+    let lead = notes_within edition true s.lead.at 56 s.lead.n in
+    let keys = notes_within edition false s.keys.at 128 s.keys.n in
+    let hits = hits_within s.hits.at 98 s.hits.n in
+    let a = both (finite s.bpm && chords_within s.bar_chords && lead && keys && hits) (notes_within edition false s.bass.at 104 s.bass.n) ok in
     let b = both (finite s.bpm && chords_within s.bar_chords && lead && keys) hits a.0 in
     let c = both (finite s.bpm && chords_within s.bar_chords && lead) keys b.0 in
     let d = both (finite s.bpm && chords_within s.bar_chords) lead c.0 in
@@ -138,13 +138,13 @@ within_told v ok =
     (b.0, b.1, a.1)
 
 -- ---- so it can be written
-pub told_writable : (edition : Edition) (s : Score) → score_within edition s ≡ true → length s.lead ≡ 56 → length s.keys ≡ 128 → length s.hits ≡ 98 → length s.bass ≡ 104 → Writable s
+pub told_writable : (edition : Edition) (s : Score) → score_within edition s ≡ true → length s.lead.at ≡ 56 → length s.keys.at ≡ 128 → length s.hits.at ≡ 98 → length s.bass.at ≡ 104 → Writable s
 told_writable edition s ok l k h b =
     let p = score_told edition s ok in
-    let lead = notes_told edition true s.lead 56 s.lead_count p.lead in
-    let keys = notes_told edition false s.keys 128 s.keys_count p.keys in
-    let hits = hits_told s.hits 98 s.hit_count p.hits in
-    let bass = notes_told edition false s.bass 104 s.bass_count p.bass in
+    let lead = notes_told edition true s.lead.at 56 s.lead.n p.lead in
+    let keys = notes_told edition false s.keys.at 128 s.keys.n p.keys in
+    let hits = hits_told s.hits.at 98 s.hits.n p.hits in
+    let bass = notes_told edition false s.bass.at 104 s.bass.n p.bass in
     record {
       lanes = record {
         lead = record { size = l; few = lead.0 };
@@ -154,10 +154,10 @@ told_writable edition s ok l k h b =
       };
       numbers = record {
         bpm = yes (finite s.bpm) p.bpm;
-        lead = λ i z. (note_told edition true (get_or s.lead i past_note) (lead.1 i z)).3;
-        keys = λ i z. (note_told edition false (get_or s.keys i past_note) (keys.1 i z)).3;
-        hits = λ i z. (hit_told (get_or s.hits i past_hit) (hits.1 i z)).2;
-        bass = λ i z. (note_told edition false (get_or s.bass i past_note) (bass.1 i z)).3;
+        lead = λ i z. (note_told edition true (get_or s.lead.at i past_note) (lead.1 i z)).3;
+        keys = λ i z. (note_told edition false (get_or s.keys.at i past_note) (keys.1 i z)).3;
+        hits = λ i z. (hit_told (get_or s.hits.at i past_hit) (hits.1 i z)).2;
+        bass = λ i z. (note_told edition false (get_or s.bass.at i past_note) (bass.1 i z)).3;
       };
     }
 
@@ -272,14 +272,14 @@ cleared_told v ok =
     (b.0, b.1, a.1)
 
 lanes_told : (s : Score) → score_zero s ≡ true
-    → (notes_zero s.lead 56 s.lead_count ≡ true) × (notes_zero s.keys 128 s.keys_count ≡ true)
-    × (hits_zero s.hits 98 s.hit_count ≡ true) × (notes_zero s.bass 104 s.bass_count ≡ true)
+    → (notes_zero s.lead.at 56 s.lead.n ≡ true) × (notes_zero s.keys.at 128 s.keys.n ≡ true)
+    × (hits_zero s.hits.at 98 s.hits.n ≡ true) × (notes_zero s.bass.at 104 s.bass.n ≡ true)
 unfolding score_zero
 lanes_told s ok =
-    let lead = notes_zero s.lead 56 s.lead_count in
-    let keys = notes_zero s.keys 128 s.keys_count in
-    let hits = hits_zero s.hits 98 s.hit_count in
-    let a = both (lead && keys && hits) (notes_zero s.bass 104 s.bass_count) ok in
+    let lead = notes_zero s.lead.at 56 s.lead.n in
+    let keys = notes_zero s.keys.at 128 s.keys.n in
+    let hits = hits_zero s.hits.at 98 s.hits.n in
+    let a = both (lead && keys && hits) (notes_zero s.bass.at 104 s.bass.n) ok in
     let b = both (lead && keys) hits a.0 in
     let c = both lead keys b.0 in
     (c.0, c.1, b.1, a.1)
@@ -311,10 +311,10 @@ tested_value v t ok =
       bpm = yes (finite v.score.bpm) s.bpm;
       bpm_fits = t.bpm;
       chords = chords_padded v.score.bar_chords t.chords s.chords;
-      lead = notes_padded v.edition true v.score.lead 56 v.score.lead_count t.lead s.lead l.0;
-      keys = notes_padded v.edition false v.score.keys 128 v.score.keys_count t.keys s.keys l.1;
-      hits = hits_padded v.score.hits 98 v.score.hit_count t.hits s.hits l.2;
-      bass = notes_padded v.edition false v.score.bass 104 v.score.bass_count t.bass s.bass l.3;
+      lead = notes_padded v.edition true v.score.lead.at 56 v.score.lead.n t.lead s.lead.at l.0;
+      keys = notes_padded v.edition false v.score.keys.at 128 v.score.keys.n t.keys s.keys.at l.1;
+      hits = hits_padded v.score.hits.at 98 v.score.hits.n t.hits s.hits.at l.2;
+      bass = notes_padded v.edition false v.score.bass.at 104 v.score.bass.n t.bass s.bass.at l.3;
       classes = scale_padded v.scale t.pcs w.1 z.1;
       classes_least = (scale_told v.scale w.1).0;
       phrases = (f.0, f.1);

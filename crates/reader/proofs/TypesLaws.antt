@@ -83,10 +83,10 @@ song_typed v us p =
       shape = record {
         bpm = float_fits s.bpm bpm.0.1;
         chords = lane chord.the_row (λ c. length c.notes ≡ 4) past_chord chord_long 8 s.bar_chords _ bpm.1.0;
-        lead = notes_typed 56 s.lead _ lead.0;
-        keys = notes_typed 128 s.keys _ lead.1.1.0;
-        hits = lane hit.the_row TypedHit past_hit hit_typed 98 s.hits _ hits.0;
-        bass = notes_typed 104 s.bass _ hits.1.1.0;
+        lead = notes_typed 56 s.lead.at _ lead.0;
+        keys = notes_typed 128 s.keys.at _ lead.1.1.0;
+        hits = lane hit.the_row TypedHit past_hit hit_typed 98 s.hits.at _ hits.0;
+        bass = notes_typed 104 s.bass.at _ hits.1.1.0;
         pcs = long u8 6 v.scale.pcs _ from.1.1.0.1.1.0;
         plays = long plays.the_row 64 v.form.plays _ from.1.1.1.0.1.1.1.1.1.1.0;
       };

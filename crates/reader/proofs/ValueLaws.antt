@@ -116,11 +116,11 @@ notes_kept {edition} {leads} f = kept f (StoredNote edition leads) (λ x p. reco
 
 -- ---- the song's
 module _ (v : Song) (p : Value v) where
-  hits_in_lem : hits_within v.score.hits 98 v.score.hit_count ≡ true
+  hits_in_lem : hits_within v.score.hits.at 98 v.score.hits.n ≡ true
   unfolding hits_within
-  hits_in_lem = rw (le-leb v.score.hit_count 98 p.hits.few) (used_pass p.hits hit_within hit_in)
+  hits_in_lem = rw (le-leb v.score.hits.n 98 p.hits.few) (used_pass p.hits hit_within hit_in)
 
-  hits_zero_lem : hits_zero v.score.hits 98 v.score.hit_count ≡ true
+  hits_zero_lem : hits_zero v.score.hits.at 98 v.score.hits.n ≡ true
   unfolding hits_zero
   hits_zero_lem = rest_pass p.hits hit_zero no_hit_zero
 

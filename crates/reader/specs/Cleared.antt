@@ -39,8 +39,8 @@ plays_zero f = all_to (λ b. ltb b f.bars || eqb (bits_of (get_or f.plays b sile
 
 unfoldable pub score_zero : Score → Bool
 score_zero s =
-    notes_zero s.lead 56 s.lead_count && notes_zero s.keys 128 s.keys_count
-    && hits_zero s.hits 98 s.hit_count && notes_zero s.bass 104 s.bass_count
+    notes_zero s.lead.at 56 s.lead.n && notes_zero s.keys.at 128 s.keys.n
+    && hits_zero s.hits.at 98 s.hits.n && notes_zero s.bass.at 104 s.bass.n
 
 unfoldable pub cleared : Song → Bool
 cleared v = score_zero v.score && scale_zero v.scale && plays_zero v.form

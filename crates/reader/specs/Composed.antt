@@ -25,14 +25,10 @@ told_in Edition.One s = record {
   style = s.style;
   bpm = s.bpm;
   bar_chords = s.bar_chords;
-  lead = backed_notes 56 s.lead s.lead_count;
-  lead_count = s.lead_count;
-  keys = backed_notes 128 s.keys s.keys_count;
-  keys_count = s.keys_count;
+  lead = record { at = backed_notes 56 s.lead.at s.lead.n; n = s.lead.n };
+  keys = record { at = backed_notes 128 s.keys.at s.keys.n; n = s.keys.n };
   hits = s.hits;
-  hit_count = s.hit_count;
-  bass = backed_notes 104 s.bass s.bass_count;
-  bass_count = s.bass_count;
+  bass = record { at = backed_notes 104 s.bass.at s.bass.n; n = s.bass.n };
   lead_voice = s.lead_voice;
 }
 told_in Edition.Two s = s

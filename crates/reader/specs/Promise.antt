@@ -72,9 +72,9 @@ pub record ReadTells (bytes : List ℕ) : Type 0 where
 -- ---- the editions
 -- every note in use has a role that its lane has there
 pub record RolesIn (v : Song) : Type 0 where
-  pub lead : (i : ℕ) → i < v.score.lead_count → RoleIn v.edition true (get_or v.score.lead i past_note)
-  pub keys : (i : ℕ) → i < v.score.keys_count → RoleIn v.edition false (get_or v.score.keys i past_note)
-  pub bass : (i : ℕ) → i < v.score.bass_count → RoleIn v.edition false (get_or v.score.bass i past_note)
+  pub lead : (i : ℕ) → i < v.score.lead.n → RoleIn v.edition true (get_or v.score.lead.at i past_note)
+  pub keys : (i : ℕ) → i < v.score.keys.n → RoleIn v.edition false (get_or v.score.keys.at i past_note)
+  pub bass : (i : ℕ) → i < v.score.bass.n → RoleIn v.edition false (get_or v.score.bass.at i past_note)
 
 pub record EditionTells (bytes : List ℕ) : Type 0 where
   -- what is read says which it is: edition 2 begins with 0x00, length 1, body 2, and edition 1 with 0x01

@@ -72,14 +72,19 @@ score_in bytes = record {
   style = style_by (byte_at bytes (body_at bytes 0));
   bpm = f32_at bytes (body_at bytes 1);
   bar_chords = chords_from bytes (body_at bytes 2);
-  lead = pad no_note 56 (notes_at (edition_in bytes) true bytes (body_at bytes 4) (note_count_in bytes 4));
-  lead_count = note_count_in bytes 4;
-  keys = pad no_note 128 (notes_at (edition_in bytes) false bytes (body_at bytes 5) (note_count_in bytes 5));
-  keys_count = note_count_in bytes 5;
-  hits = pad no_hit 98 (hits_at bytes (body_at bytes 6) (hit_count_in bytes 6));
-  hit_count = hit_count_in bytes 6;
-  bass = pad no_note 104 (notes_at (edition_in bytes) false bytes (body_at bytes 7) (note_count_in bytes 7));
-  bass_count = note_count_in bytes 7;
+  lead = record {
+    at = pad no_note 56 (notes_at (edition_in bytes) true bytes (body_at bytes 4) (note_count_in bytes 4));
+    n = note_count_in bytes 4;
+  };
+  keys = record {
+    at = pad no_note 128 (notes_at (edition_in bytes) false bytes (body_at bytes 5) (note_count_in bytes 5));
+    n = note_count_in bytes 5;
+  };
+  hits = record { at = pad no_hit 98 (hits_at bytes (body_at bytes 6) (hit_count_in bytes 6)); n = hit_count_in bytes 6 };
+  bass = record {
+    at = pad no_note 104 (notes_at (edition_in bytes) false bytes (body_at bytes 7) (note_count_in bytes 7));
+    n = note_count_in bytes 7;
+  };
   lead_voice = voice_coded (byte_at bytes (body_at bytes 0 + 9));
 }
 

@@ -38,10 +38,10 @@ pub record TypedLane {A : Type 0} (P : A → Type 0) (d : A) (cap : ℕ) (xs : L
 pub record Shaped (v : Song) : Type 0 where
   pub bpm : Fits32 v.score.bpm
   pub chords : TypedLane (λ c. length c.notes ≡ 4) past_chord 8 v.score.bar_chords
-  pub lead : TypedLane TypedNote past_note 56 v.score.lead
-  pub keys : TypedLane TypedNote past_note 128 v.score.keys
-  pub hits : TypedLane TypedHit past_hit 98 v.score.hits
-  pub bass : TypedLane TypedNote past_note 104 v.score.bass
+  pub lead : TypedLane TypedNote past_note 56 v.score.lead.at
+  pub keys : TypedLane TypedNote past_note 128 v.score.keys.at
+  pub hits : TypedLane TypedHit past_hit 98 v.score.hits.at
+  pub bass : TypedLane TypedNote past_note 104 v.score.bass.at
   pub pcs : length v.scale.pcs ≡ 6
   pub plays : length v.form.plays ≡ 64
 
@@ -90,10 +90,10 @@ pub record Value (v : Song) : Type 0 where
   pub bpm : T (finite v.score.bpm)
   pub bpm_fits : Fits32 v.score.bpm
   pub chords : Padded ChordIn past_chord no_chord 8 v.score.bar_chords 8
-  pub lead : Padded (NoteIn v.edition true) past_note no_note 56 v.score.lead v.score.lead_count
-  pub keys : Padded (NoteIn v.edition false) past_note no_note 128 v.score.keys v.score.keys_count
-  pub hits : Padded HitIn past_hit no_hit 98 v.score.hits v.score.hit_count
-  pub bass : Padded (NoteIn v.edition false) past_note no_note 104 v.score.bass v.score.bass_count
+  pub lead : Padded (NoteIn v.edition true) past_note no_note 56 v.score.lead.at v.score.lead.n
+  pub keys : Padded (NoteIn v.edition false) past_note no_note 128 v.score.keys.at v.score.keys.n
+  pub hits : Padded HitIn past_hit no_hit 98 v.score.hits.at v.score.hits.n
+  pub bass : Padded (NoteIn v.edition false) past_note no_note 104 v.score.bass.at v.score.bass.n
   pub classes : Padded (λ c. c < 12) 0 0 6 v.scale.pcs v.scale.n
   pub classes_least : 5 ≤ v.scale.n
   pub phrases : (4 ≤ v.form.phrases) × (v.form.phrases ≤ 6)

@@ -53,8 +53,8 @@ form_within f = leb 4 f.phrases && leb f.phrases 6 && eqb (parts_of f) f.bars
 unfoldable pub score_within : Edition → Score → Bool
 score_within edition s =
     finite s.bpm && chords_within s.bar_chords
-    && notes_within edition true s.lead 56 s.lead_count && notes_within edition false s.keys 128 s.keys_count
-    && hits_within s.hits 98 s.hit_count && notes_within edition false s.bass 104 s.bass_count
+    && notes_within edition true s.lead.at 56 s.lead.n && notes_within edition false s.keys.at 128 s.keys.n
+    && hits_within s.hits.at 98 s.hits.n && notes_within edition false s.bass.at 104 s.bass.n
 
 unfoldable pub within : Song → Bool
 within v = score_within v.edition v.score && scale_within v.scale && form_within v.form

@@ -67,10 +67,10 @@ fn plays_zero(f: &Form) -> bool
 fn score_zero(s: &Score) -> bool
     ensures { result ≡ score_zero s.now }
 {
-    notes_zero(&s.lead, s.lead_count)
-        && notes_zero(&s.keys, s.keys_count)
-        && hits_zero(&s.hits, s.hit_count)
-        && notes_zero(&s.bass, s.bass_count)
+    notes_zero(&s.lead.at, s.lead.n)
+        && notes_zero(&s.keys.at, s.keys.n)
+        && hits_zero(&s.hits.at, s.hits.n)
+        && notes_zero(&s.bass.at, s.bass.n)
 }
 
 // Whether every unused entry is zero.

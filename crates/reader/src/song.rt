@@ -12,6 +12,7 @@ use crate::event::{hits_at, notes_at};
 use crate::layout::Fields;
 use composer::chord::{Chord, NO_CHORD};
 use composer::compose::style_by;
+use composer::few::Few;
 use composer::form::Form;
 use composer::form::ends::{End, Outro};
 use composer::form::plays::{Plays, SILENT};
@@ -82,14 +83,22 @@ fn score_in(fields: &Fields) -> Score
         style: style_by(byte_in(bytes, name)),
         bpm: f32_at(bytes, fields.body(1)),
         bar_chords: chords_from(bytes, fields.body(2)),
-        lead: notes_at(fields, 4, true),
-        lead_count: fields.notes(4),
-        keys: notes_at(fields, 5, false),
-        keys_count: fields.notes(5),
-        hits: hits_at(fields, 6),
-        hit_count: fields.hits(6),
-        bass: notes_at(fields, 7, false),
-        bass_count: fields.notes(7),
+        lead: Few {
+            at: notes_at(fields, 4, true),
+            n: fields.notes(4),
+        },
+        keys: Few {
+            at: notes_at(fields, 5, false),
+            n: fields.notes(5),
+        },
+        hits: Few {
+            at: hits_at(fields, 6),
+            n: fields.hits(6),
+        },
+        bass: Few {
+            at: notes_at(fields, 7, false),
+            n: fields.notes(7),
+        },
         lead_voice: voice_coded(byte_in(bytes, name + 9)),
     }
 }

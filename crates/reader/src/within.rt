@@ -90,10 +90,10 @@ fn score_within(s: &Score, edition: Edition) -> bool
 {
     s.bpm.is_finite()
         && chords_within(s.bar_chords)
-        && notes_within(&s.lead, s.lead_count, edition, true)
-        && notes_within(&s.keys, s.keys_count, edition, false)
-        && hits_within(&s.hits, s.hit_count)
-        && notes_within(&s.bass, s.bass_count, edition, false)
+        && notes_within(&s.lead.at, s.lead.n, edition, true)
+        && notes_within(&s.keys.at, s.keys.n, edition, false)
+        && hits_within(&s.hits.at, s.hits.n)
+        && notes_within(&s.bass.at, s.bass.n, edition, false)
 }
 
 // Whether every number is in its range.

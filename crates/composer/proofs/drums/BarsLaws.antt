@@ -82,7 +82,7 @@ module _ (g : Groove) (bar : Bar) where
       let a = hats_add l e (omega arith) in
       adds_then bar.number l (hats_to l g bar e) (hats_to l g bar (suc e)) a (lay_hat_adds (hats_to l g bar e) e (omega (arith, a.size, hats_most l g bar e)))
 
-module _ (g : Groove) (snares : g.snare_count ≤ 2) (beatS : Float) where
+module _ (g : Groove) (snares : g.snares.n ≤ 2) (beatS : Float) where
   bar_adds : (l : DrumLane) (n : ℕ) → l.value.n + 13 ≤ length l.value.at → Adds n l (lay_bar_of l g beatS n)
   unfolding lay_bar_of
   bar_adds l n h =
@@ -92,12 +92,12 @@ module _ (g : Groove) (snares : g.snare_count ≤ 2) (beatS : Float) where
       let k = lay_kicks_of a g bar in
       let t = lay_snares_of k g bar in
       let ka = kicks_add g bar a (omega arith) in
-      let sa = snares_add g bar k g.snare_count (omega (arith, ka.size, kicks_most a g bar)) in
-      let ha = hats_add g bar t 8 (omega (arith, ka.size, sa.size, kicks_most a g bar, snares_count k g bar g.snare_count)) in
+      let sa = snares_add g bar k g.snares.n (omega (arith, ka.size, kicks_most a g bar)) in
+      let ha = hats_add g bar t 8 (omega (arith, ka.size, sa.size, kicks_most a g bar, snares_count k g bar g.snares.n)) in
       adds_then n l t (hats_to t g bar 8) (adds_then n l k t ka sa) ha
 
 -- ---- bar after bar
-module _ (g : Groove) (snares : g.snare_count ≤ 2) (beatS : Float) (s : NoiseStream) where
+module _ (g : Groove) (snares : g.snares.n ≤ 2) (beatS : Float) (s : NoiseStream) where
   abbrev lane_to : ℕ → DrumLane
   lane_to n = bars_to (no_hits s) g beatS n
 

@@ -98,7 +98,7 @@ module _ (s : NoiseStream) where
         let bar = bar_of k beatS w.value in
         let a = drawn_on l w.stream in
         let d = draw_advances l.stream wobble ∙ after_on s l.stream (n + 2 * l.value.n) (n + 1 + 2 * l.value.n) m (omega arith) in
-        hats_made (n + 1) (lay_snares_of (lay_kicks_of a g bar) g bar) bar 8 (snares_made (n + 1) (lay_kicks_of a g bar) bar g.snare_count (kicks_made (n + 1) a bar d))
+        hats_made (n + 1) (lay_snares_of (lay_kicks_of a g bar) g bar) bar 8 (snares_made (n + 1) (lay_kicks_of a g bar) bar g.snares.n (kicks_made (n + 1) a bar d))
 
     -- k bars, each with its wobble and its eighths
     pub bars_made : (n : ℕ) (l : DrumLane) (beatS : Float) (k : ℕ) → Made s n l → Made s (n + k * (1 + chances_to g.hats.off_eighths_only 8)) (bars_to l g beatS k)

@@ -86,11 +86,11 @@ module _ (n : ℕ) (tempo : (70 ≤ n) × (n ≤ 82)) (v : ℕ) where
           either (λ (m : DrumLane). earlies m ≤ earlies l) (g.ghost_pickup && ends_statement bar) (push_kick_of b bar g.drag_s ghost_kick) b
           (omega (arith, two, kick_adds b g.drag_s ghost_kick drag ghost_fair)) two
 
-      snares_add : (l : DrumLane) (i : ℕ) → i ≤ g.snare_count → earlies (snares_to l g bar i) ≤ earlies l
+      snares_add : (l : DrumLane) (i : ℕ) → i ≤ g.snares.n → earlies (snares_to l g bar i) ≤ earlies l
       unfolding snares_to
       snares_add l zero h = omega arith
       snares_add l (suc i) h =
-          omega (arith, snares_add l i (omega arith), snare_adds (snares_to l g bar i) (get_or g.snares i nan) g.snare_gain (snare_beat g isFair i (omega arith)))
+          omega (arith, snares_add l i (omega arith), snare_adds (snares_to l g bar i) (get_or g.snares.at i nan) g.snare_gain (snare_beat g isFair i (omega arith)))
 
       -- a hat may be early, in its own bar
       hat_most : (l : DrumLane) (e : ℕ) → earlies (push_hat_of l g bar e) ≤ earlies l + cond (eqb number v) 1 0
@@ -132,7 +132,7 @@ module _ (n : ℕ) (tempo : (70 ≤ n) × (n ≤ 82)) (v : ℕ) where
         let a = drawn_on l w.stream in
         let k = lay_kicks_of a g b in
         let t = lay_snares_of k g b in
-        omega (arith, kicks_add number h w.value g isFair a, snares_add number h w.value g isFair k g.snare_count (omega arith), hats_add number h w.value g isFair t 8 (omega arith))
+        omega (arith, kicks_add number h w.value g isFair a, snares_add number h w.value g isFair k g.snares.n (omega arith), hats_add number h w.value g isFair t 8 (omega arith))
 
     bars_add : (l : DrumLane) (m : ℕ) → m ≤ 8 → earlies (bars_to l g beat_s m) ≤ earlies l + sum_to (λ k. cond (eqb k v) 1 0) m
     unfolding bars_to sum_to

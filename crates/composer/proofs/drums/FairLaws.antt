@@ -57,10 +57,10 @@ fair_kicks g = (fair_kick g.first && fair_kick g.second) && between least_drag m
 
 -- no snare before the second beat
 abbrev fair_snare : Groove → ℕ → Bool
-fair_snare g i = between (f32_of 1) last_beat (get_or g.snares i nan)
+fair_snare g i = between (f32_of 1) last_beat (get_or g.snares.at i nan)
 
 abbrev fair_snares : Groove → Bool
-fair_snares g = every g.snare_count (fair_snare g) && between least_gain most_gain g.snare_gain
+fair_snares g = every g.snares.n (fair_snare g) && between least_gain most_gain g.snare_gain
 
 abbrev fair_hats : Groove → Bool
 fair_hats g = between half most_swing g.hats.swing && stays g.hats.velocity least_hat most_hat
@@ -114,11 +114,11 @@ module _ (g : Groove) (isFair : T (fair g)) where
   pub drag_fair : In least_drag most_drag g.drag_s
   drag_fair = between_in least_drag most_drag g.drag_s two_and_drag.1
 
-  beats_and_snare : T (every g.snare_count (fair_snare g)) × T (between least_gain most_gain g.snare_gain)
-  beats_and_snare = and_yes (every g.snare_count (fair_snare g)) (between least_gain most_gain g.snare_gain) snares_and_hats.0
+  beats_and_snare : T (every g.snares.n (fair_snare g)) × T (between least_gain most_gain g.snare_gain)
+  beats_and_snare = and_yes (every g.snares.n (fair_snare g)) (between least_gain most_gain g.snare_gain) snares_and_hats.0
 
-  pub snare_beat : (i : ℕ) → i < g.snare_count → In (f32_of 1) last_beat (get_or g.snares i nan)
-  snare_beat i h = between_in (f32_of 1) last_beat (get_or g.snares i nan) (every_at g.snare_count (fair_snare g) beats_and_snare.0 i h)
+  pub snare_beat : (i : ℕ) → i < g.snares.n → In (f32_of 1) last_beat (get_or g.snares.at i nan)
+  snare_beat i h = between_in (f32_of 1) last_beat (get_or g.snares.at i nan) (every_at g.snares.n (fair_snare g) beats_and_snare.0 i h)
 
   pub snare_gain_lem : In least_gain most_gain g.snare_gain
   snare_gain_lem = between_in least_gain most_gain g.snare_gain beats_and_snare.1

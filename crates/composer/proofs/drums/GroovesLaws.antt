@@ -5,7 +5,7 @@ use Prim.Native.Nat.{ℕ, zero, suc, ◌≤◌}
 use native.Mathlib.Omega.{arith}
 use Rattle.composer.specs.Drums.Grooves.{hiphop_groove_of}
 
-pub hiphop_snares : (n : ℕ) → (hiphop_groove_of n).snare_count ≤ 2
+pub hiphop_snares : (n : ℕ) → (hiphop_groove_of n).snares.n ≤ 2
 unfolding hiphop_groove_of
 hiphop_snares zero = omega arith
 hiphop_snares (suc zero) = omega arith

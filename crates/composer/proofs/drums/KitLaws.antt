@@ -102,19 +102,19 @@ module _ (l : DrumLane) (g : Groove) (beatS : Float) where
       let bar = bar_of n beatS w.value in
       let a = drawn_on l w.stream in
       let k = lay_kicks_of a g bar in
-      omega (arith, kicks_least a g bar, snares_count k g bar g.snare_count, hats_least (lay_snares_of k g bar) g bar 8)
+      omega (arith, kicks_least a g bar, snares_count k g bar g.snares.n, hats_least (lay_snares_of k g bar) g bar 8)
 
-  pub bar_most : g.snare_count ≤ 2 → (n : ℕ) → (lay_bar_of l g beatS n).value.n + n / 4 ≤ l.value.n + 12 + (n + 1) / 4
+  pub bar_most : g.snares.n ≤ 2 → (n : ℕ) → (lay_bar_of l g beatS n).value.n + n / 4 ≤ l.value.n + 12 + (n + 1) / 4
   unfolding lay_bar_of
   bar_most h n =
       let w = draw_of wobble l.stream in
       let bar = bar_of n beatS w.value in
       let a = drawn_on l w.stream in
       let k = lay_kicks_of a g bar in
-      omega (arith, kicks_most a g bar, snares_count k g bar g.snare_count, hats_most (lay_snares_of k g bar) g bar 8)
+      omega (arith, kicks_most a g bar, snares_count k g bar g.snares.n, hats_most (lay_snares_of k g bar) g bar 8)
 
 module _ (l : DrumLane) (g : Groove) (beatS : Float) where
-  pub bars_most : g.snare_count ≤ 2 → (n : ℕ) → (bars_to l g beatS n).value.n ≤ l.value.n + 12 * n + n / 4
+  pub bars_most : g.snares.n ≤ 2 → (n : ℕ) → (bars_to l g beatS n).value.n ≤ l.value.n + 12 * n + n / 4
   unfolding bars_to
   bars_most h zero = omega arith
   bars_most h (suc n) = omega (arith, bars_most h n, bar_most (bars_to l g beatS n) g beatS h n)

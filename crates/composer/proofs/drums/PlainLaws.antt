@@ -168,11 +168,11 @@ module _ (beatS : Float) (beat : In quickest slowest beatS) (number : ℕ) (in_l
         let two = kick_full _ g.drag_s g.second d v.1 (kick_full l g.drag_s g.first d v.0 f) in
         either Full (g.ghost_pickup && ends_statement bar) _ _ (kick_full _ g.drag_s ghost_kick d ghost_fair two) two
 
-    snares_full : (l : DrumLane) (i : ℕ) → i ≤ g.snare_count → Full l → Full (snares_to l g bar i)
+    snares_full : (l : DrumLane) (i : ℕ) → i ≤ g.snares.n → Full l → Full (snares_to l g bar i)
     unfolding snares_to
     snares_full l zero h f = f
     snares_full l (suc i) h f =
-        snare_full (snares_to l g bar i) (get_or g.snares i nan) g.snare_gain (snare_beat g isFair i (omega arith)) (snare_gain_lem g isFair) (snares_full l i (omega arith) f)
+        snare_full (snares_to l g bar i) (get_or g.snares.at i nan) g.snare_gain (snare_beat g isFair i (omega arith)) (snare_gain_lem g isFair) (snares_full l i (omega arith) f)
 
     lay_hat_full : (l : DrumLane) (e : ℕ) → e ≤ 7 → Full l → Full (lay_hat_of l g bar e)
     unfolding lay_hat_of
@@ -195,7 +195,7 @@ module _ (beatS : Float) (beat : In quickest slowest beatS) where
         let b = bar_of n beatS d.value in
         let k = lay_kicks_of (drawn_on l d.stream) g b in
         let kf : Full k = kicks_full beatS beat n h d.value w g isFair (drawn_on l d.stream) f in
-        let sf : Full (lay_snares_of k g b) = snares_full beatS beat n h d.value w g isFair k g.snare_count (omega arith) kf in
+        let sf : Full (lay_snares_of k g b) = snares_full beatS beat n h d.value w g isFair k g.snares.n (omega arith) kf in
         hats_full beatS beat n h d.value w g isFair (lay_snares_of k g b) 8 (omega arith) sf
 
     bars_full : (l : DrumLane) (n : ℕ) → n ≤ 8 → Full l → Full (bars_to l g beatS n)

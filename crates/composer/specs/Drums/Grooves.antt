@@ -3,6 +3,7 @@ use Rattle.std.specs.Prelude.{true, false, List, [], ◌∷◌, ℕ, get_or, Flo
 use Rattle.std.specs.Float.{nan, binary32}
 use Rattle.std.specs.Float.Ieee.{of_bits}
 use Rattle.composer.specs.Note.{zero32}
+use Rattle.composer.specs.declared.few.Few.{Few}
 use Rattle.composer.specs.declared.drums.grooves.Kick.{Kick}
 use Rattle.composer.specs.declared.drums.grooves.Hats.{Hats}
 use Rattle.composer.specs.declared.drums.grooves.Groove.{Groove}
@@ -16,8 +17,8 @@ abbrev pub ghost_kick : Kick
 ghost_kick = record { even = of_bits binary32 0x4070_0000; odd = of_bits binary32 0x4070_0000; gain = of_bits binary32 0x3eb3_3333 }
 
 -- 1.0 and 3.0
-abbrev pub backbeats : List Float
-backbeats = of_bits binary32 0x3f80_0000 ∷ of_bits binary32 0x4040_0000 ∷ []
+abbrev pub backbeats : Few Float 2
+backbeats = record { at = of_bits binary32 0x3f80_0000 ∷ of_bits binary32 0x4040_0000 ∷ []; n = 2 }
 
 -- velocity 0.4 and 0.2
 abbrev pub hiphop_hats : Float → Float → Hats
@@ -44,7 +45,6 @@ boom_bap swing = record {
   ghost_pickup = true;
   drag_s = drag_kick_s;
   snares = backbeats;
-  snare_count = 2;
   snare_gain = snare_gain;
   hats = hiphop_hats swing (of_bits binary32 0x3e19_999a);
   open_hat = true;
@@ -57,8 +57,7 @@ half_time = record {
   second = record { even = of_bits binary32 0x4030_0000; odd = of_bits binary32 0x4030_0000; gain = of_bits binary32 0x3f33_3333 };
   ghost_pickup = false;
   drag_s = drag_kick_s;
-  snares = of_bits binary32 0x4000_0000 ∷ zero32 ∷ [];
-  snare_count = 1;
+  snares = record { at = of_bits binary32 0x4000_0000 ∷ zero32 ∷ []; n = 1 };
   snare_gain = snare_gain;
   hats = hiphop_hats (of_bits binary32 0x3f0f_5c29) (of_bits binary32 0x3e99_999a);
   open_hat = true;
@@ -72,7 +71,6 @@ sparse = record {
   ghost_pickup = false;
   drag_s = drag_kick_s;
   snares = backbeats;
-  snare_count = 2;
   snare_gain = snare_gain;
   hats = hiphop_hats (of_bits binary32 0x3f0f_5c29) (of_bits binary32 0x3ee6_6666);
   open_hat = false;
@@ -89,8 +87,7 @@ past_groove = record {
   second = record { even = nan; odd = nan; gain = nan };
   ghost_pickup = false;
   drag_s = nan;
-  snares = [];
-  snare_count = 0;
+  snares = record { at = []; n = 0 };
   snare_gain = nan;
   hats = record { off_eighths_only = false; skip_p = nan; swing = nan; velocity = record { base = nan; span = nan } };
   open_hat = false;
@@ -107,7 +104,6 @@ sleep_groove = record {
   ghost_pickup = false;
   drag_s = of_bits binary32 0x3c93_74bc;
   snares = backbeats;
-  snare_count = 2;
   snare_gain = of_bits binary32 0x3edc_28f6;
   hats = record {
     off_eighths_only = true;

@@ -124,10 +124,10 @@ push_snare_of l bar beat gain = struck_of l (snare_hit_of l.stream bar beat gain
 -- the first i snares
 unfoldable pub snares_to : DrumLane → Groove → Bar → ℕ → DrumLane
 snares_to l g bar zero = l
-snares_to l g bar (suc i) = push_snare_of (snares_to l g bar i) bar (get_or g.snares i nan) g.snare_gain
+snares_to l g bar (suc i) = push_snare_of (snares_to l g bar i) bar (get_or g.snares.at i nan) g.snare_gain
 
 abbrev pub lay_snares_of : DrumLane → Groove → Bar → DrumLane
-lay_snares_of l g bar = snares_to l g bar g.snare_count
+lay_snares_of l g bar = snares_to l g bar g.snares.n
 
 -- ---- hats
 -- 0.5 and 0.012

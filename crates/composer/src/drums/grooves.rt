@@ -2,6 +2,7 @@
 ghost use Rattle.std.specs.Prelude.{◌≡◌, ◌<◌};
 ghost use Rattle.composer.specs.Drums.Grooves.{hiphop_groove_of};
 
+use crate::few::Few;
 use crate::spread::Spread;
 
 // A kick: the beat it lands on in even bars and in odd ones, and its gain.
@@ -21,16 +22,14 @@ pub struct Hats {
     pub velocity: Spread,
 }
 
-// The first `snare_count` entries of `snares` are the beats that the snare lands on. The kicks land
-// `drag_s` seconds behind the grid. A ghost kick and an open hat may end each statement and answer.
+// `snares` are the beats that the snare lands on. The kicks land `drag_s` seconds behind the grid. A ghost kick and an open hat may end each statement and answer.
 #[derive(Clone, Copy)]
 pub struct Groove {
     pub first: Kick,
     pub second: Kick,
     pub ghost_pickup: bool,
     pub drag_s: f32,
-    pub snares: [f32; 2],
-    pub snare_count: usize,
+    pub snares: Few<f32, 2>,
     pub snare_gain: f32,
     pub hats: Hats,
     pub open_hat: bool,
@@ -39,6 +38,12 @@ pub struct Groove {
 const DOWNBEAT: f32 = 0.0;
 
 const DRAG_KICK_S: f32 = 0.015;
+
+// On 2 and 4.
+const BACKBEATS: Few<f32, 2> = Few {
+    at: [1.0, 3.0],
+    n: 2,
+};
 
 const SNARE_GAIN: f32 = 0.85;
 
@@ -67,8 +72,7 @@ const BOOM_BAP: Groove = Groove {
     },
     ghost_pickup: true,
     drag_s: DRAG_KICK_S,
-    snares: [1.0, 3.0],
-    snare_count: 2,
+    snares: BACKBEATS,
     snare_gain: SNARE_GAIN,
     hats: Hats {
         off_eighths_only: false,
@@ -93,8 +97,7 @@ const SWUNG_BOOM_BAP: Groove = Groove {
     },
     ghost_pickup: true,
     drag_s: DRAG_KICK_S,
-    snares: [1.0, 3.0],
-    snare_count: 2,
+    snares: BACKBEATS,
     snare_gain: SNARE_GAIN,
     hats: Hats {
         off_eighths_only: false,
@@ -119,8 +122,10 @@ const HALF_TIME: Groove = Groove {
     },
     ghost_pickup: false,
     drag_s: DRAG_KICK_S,
-    snares: [2.0, 0.0],
-    snare_count: 1,
+    snares: Few {
+        at: [2.0, 0.0],
+        n: 1,
+    },
     snare_gain: SNARE_GAIN,
     hats: Hats {
         off_eighths_only: false,
@@ -145,8 +150,7 @@ const SPARSE: Groove = Groove {
     },
     ghost_pickup: false,
     drag_s: DRAG_KICK_S,
-    snares: [1.0, 3.0],
-    snare_count: 2,
+    snares: BACKBEATS,
     snare_gain: SNARE_GAIN,
     hats: Hats {
         off_eighths_only: false,
@@ -171,8 +175,7 @@ pub const SLEEP_GROOVE: Groove = Groove {
     },
     ghost_pickup: false,
     drag_s: 0.018,
-    snares: [1.0, 3.0],
-    snare_count: 2,
+    snares: BACKBEATS,
     snare_gain: 0.43,
     hats: Hats {
         off_eighths_only: true,

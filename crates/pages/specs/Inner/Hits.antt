@@ -29,7 +29,7 @@ abbrev pub own_part : ℕ → Part
 own_part b = cond (eqb b 0) Part.All Part.Late
 
 abbrev pub run_hits : Score → HeardRuns → List Hit
-run_hits s h = hits_in s h.part (run_of h.own s.hits) ++ hits_in s Part.Early (run_of h.next s.hits)
+run_hits s h = hits_in s h.part (run_of h.own s.hits.at) ++ hits_in s Part.Early (run_of h.next s.hits.at)
 
 -- both runs stand in the lane, and there are so many
 pub record HitsWithin (s : Score) (h : HeardRuns) : Type 0 where

@@ -13,4 +13,4 @@ pub returns : goal.returns
 unfolding kicks_of kicks_in
 returns c =
     let a = c.args.score in
-    rw (le-leb a.hit_count 98 c.if-n-gt98.false, times_sorted (times_of (take a.hit_count a.hits)) c.heard-t.result c.sort_front.new.a c.heard-t.ensures.value c.sort_front.ensures)
+    rw (le-leb a.hits.n 98 c.if-n-gt98.false, times_sorted (times_of (take a.hits.n a.hits.at)) c.heard-t.result c.sort_front.new.a c.heard-t.ensures.value c.sort_front.ensures)

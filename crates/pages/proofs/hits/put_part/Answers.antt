@@ -18,14 +18,14 @@ loop-h-init c = wrote_none c.args.buf.now c.args.at (omega arith)
 pub put-o-requires-clause-room : goal.put-o-requires-clause-room
 put-o-requires-clause-room c =
     let test = in_part c.args.part c.beat_s_of-beat_s.result in
-    let hits = run_of c.args.run c.args.s.now.hits in
+    let hits = run_of c.args.run c.args.s.now.hits.at in
     let most : c.args.at + 10 * length (filter_of test hits) ≤ length c.args.buf.now = rw c.beat_s_of-beat_s.ensures c.requires.room in
     omega (arith, c.loop-h.invariant.next, passed_room test hits c.loop-h.h-index _ (omega arith) (sym c.in_part.ensures ∙ c.if-in_part.true))
 
 pub loop-h-preserved : goal.loop-h-preserved
 loop-h-preserved c =
     let test = in_part c.args.part c.beat_s_of-beat_s.result in
-    let hits = run_of c.args.run c.args.s.now.hits in
+    let hits = run_of c.args.run c.args.s.now.hits.at in
     let i = c.loop-h.h-index in
     elim c.if-in_part.branch [
       | then-in_part w ↦ rw (w.buf-is, w.o-is) (passed_wrote test hits i _ (omega arith) (sym c.in_part.ensures ∙ w.if-in_part.true) c.loop-h.invariant w.put-o.ensures)
