@@ -9,7 +9,7 @@ ghost use Rattle.pages.specs.Bytes.{byte_at, be16_at, be32_at, be64_at, f32_at};
 pub fn byte_at(bytes: &[u8], at: usize) -> u8
     ensures { result ≡ byte_at bytes.now at }
 {
-    if at < bytes.len() { bytes[at] } else { 0 }
+    bytes.get(at).copied().unwrap_or(0)
 }
 
 // A number of two bytes.
@@ -17,9 +17,7 @@ pub fn u16_at(bytes: &[u8], at: usize) -> u16
     requires { at + 2 ≤ 2 ^ 64 }
     ensures { result ≡ be16_at bytes.now at }
 {
-    let a = byte_at(bytes, at);
-    let b = byte_at(bytes, at + 1);
-    a as u16 * 256 + b as u16
+    u16::from_be_bytes([byte_at(bytes, at), byte_at(bytes, at + 1)])
 }
 
 // One byte that stands there: nothing is tested.
@@ -30,23 +28,17 @@ pub fn byte_in(bytes: &[u8], at: usize) -> u8
     bytes[at]
 }
 
-fn u16_in(bytes: &[u8], at: usize) -> u16
-    requires { at + 2 ≤ length bytes.now }
-    ensures { result ≡ be16_at bytes.now at }
-{
-    let a = byte_in(bytes, at);
-    let b = byte_in(bytes, at + 1);
-    a as u16 * 256 + b as u16
-}
-
 // A number of four bytes.
 pub fn u32_at(bytes: &[u8], at: usize) -> u32
     requires { at + 4 ≤ length bytes.now }
     ensures { result ≡ be32_at bytes.now at }
 {
-    let a = u16_in(bytes, at);
-    let b = u16_in(bytes, at + 2);
-    a as u32 * 65536 + b as u32
+    u32::from_be_bytes([
+        byte_in(bytes, at),
+        byte_in(bytes, at + 1),
+        byte_in(bytes, at + 2),
+        byte_in(bytes, at + 3),
+    ])
 }
 
 // A number of eight bytes.

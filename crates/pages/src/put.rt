@@ -15,20 +15,22 @@ pub fn put_u8(buf: &mut [u8], at: usize, x: u8) -> usize
     at + 1
 }
 
+// Bytes as they stand.
+pub fn put_bytes(buf: &mut [u8], at: usize, bytes: &[u8]) -> usize
+    requires { at + length bytes.now ≤ length buf.old }
+    ensures { Wrote buf.old buf.new at result (length bytes.now) bytes.now }
+{
+    let end = at + bytes.len();
+    buf[at..end].copy_from_slice(bytes);
+    end
+}
+
 // A number of two bytes.
 pub fn put_u16(buf: &mut [u8], at: usize, x: u16) -> usize
     requires { at + 2 ≤ length buf.old }
     ensures { Wrote buf.old buf.new at result 2 (be16 x) }
 {
-    let a = put_u8(buf, at, (x / 256) as u8);
-    put_u8(buf, a, (x % 256) as u8)
-}
-
-// x with its bytes in the other order. Stores that rise from its low byte on are one store to the compiler.
-fn turned(x: u32) -> u32
-    ensures { result ≡ ((x % 256 * 256 + x / 256 % 256) * 256 + x / 65536 % 256) * 256 + x / 16777216 }
-{
-    ((x % 256 * 256 + x / 256 % 256) * 256 + x / 65536 % 256) * 256 + x / 16777216
+    put_bytes(buf, at, &x.to_be_bytes())
 }
 
 // A number of four bytes.
@@ -36,11 +38,7 @@ pub fn put_u32(buf: &mut [u8], at: usize, x: u32) -> usize
     requires { at + 4 ≤ length buf.old }
     ensures { Wrote buf.old buf.new at result 4 (be32 x) }
 {
-    let y = turned(x);
-    let a = put_u8(buf, at, (y % 256) as u8);
-    let b = put_u8(buf, a, (y / 256 % 256) as u8);
-    let c = put_u8(buf, b, (y / 256 / 256 % 256) as u8);
-    put_u8(buf, c, (y / 256 / 256 / 256) as u8)
+    put_bytes(buf, at, &x.to_be_bytes())
 }
 
 // A number of eight bytes.
@@ -48,8 +46,7 @@ pub fn put_u64(buf: &mut [u8], at: usize, x: u64) -> usize
     requires { at + 8 ≤ length buf.old }
     ensures { Wrote buf.old buf.new at result 8 (be64 x) }
 {
-    let a = put_u32(buf, at, (x / 4294967296) as u32);
-    put_u32(buf, a, (x % 4294967296) as u32)
+    put_bytes(buf, at, &x.to_be_bytes())
 }
 
 // The bits of x, which is finite and so no NaN: nothing tests for one.
@@ -69,14 +66,4 @@ pub fn put_head(buf: &mut [u8], at: usize, tag: u8, size: usize) -> usize
 {
     let a = put_u8(buf, at, tag);
     put_u16(buf, a, size as u16)
-}
-
-// Bytes as they stand.
-pub fn put_bytes(buf: &mut [u8], at: usize, bytes: &[u8]) -> usize
-    requires { at + length bytes.now ≤ length buf.old }
-    ensures { Wrote buf.old buf.new at result (length bytes.now) bytes.now }
-{
-    let end = at + bytes.len();
-    buf[at..end].copy_from_slice(bytes);
-    end
 }

@@ -1,6 +1,0 @@
--- Its higher byte, then its lower. Assumes nothing.
-use Rattle.laws.proofs.Writes.{wrote_then}
-use Rattle.pages.proofs.put.put_u16.Goals as goal
-
-pub returns : goal.returns
-returns c = wrote_then c.put_u8-a.ensures c.put_u8.ensures
