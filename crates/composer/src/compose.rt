@@ -89,10 +89,22 @@ pub fn no_score() -> Score
         style: Style::Hiphop,
         bpm: 0.0,
         bar_chords: [NO_CHORD; 8],
-        lead: Few { at: [NO_NOTE; 56], n: 0 },
-        keys: Few { at: [NO_NOTE; 128], n: 0 },
-        hits: Few { at: [NO_HIT; 98], n: 0 },
-        bass: Few { at: [NO_NOTE; 104], n: 0 },
+        lead: Few {
+            at: [NO_NOTE; 56],
+            n: 0,
+        },
+        keys: Few {
+            at: [NO_NOTE; 128],
+            n: 0,
+        },
+        hits: Few {
+            at: [NO_HIT; 98],
+            n: 0,
+        },
+        bass: Few {
+            at: [NO_NOTE; 104],
+            n: 0,
+        },
         lead_voice: LeadVoice::EpVel,
     }
 }

@@ -48,6 +48,9 @@ pub fn unbeaten(score: Score) -> Score
     ensures { result ≡ unbeaten_of score }
 {
     let mut out = score;
-    out.hits = Few { at: [NO_HIT; 98], n: 0 };
+    out.hits = Few {
+        at: [NO_HIT; 98],
+        n: 0,
+    };
     out
 }
