@@ -105,7 +105,7 @@ module _ {A : Type 0} (f : A → ℕ) (d : A) where
   above_all v (x ∷ xs) (suc n) h b r =
       (le-leb v (f x) (b (omega arith)), above_all v xs n (le_of_suc-le-suc h) (λ k. omega (arith, b (omega arith), r 0 (omega arith))) (λ i k. r (suc i) (omega arith)))
 
-  pub sorted_from : (xs : List A) (n : ℕ) → n ≤ length xs → ((i : ℕ) → suc i < n → f (get_or xs i d) ≤ f (get_or xs (suc i) d)) → Sorted (by f) (take n xs)
+  sorted_from : (xs : List A) (n : ℕ) → n ≤ length xs → ((i : ℕ) → suc i < n → f (get_or xs i d) ≤ f (get_or xs (suc i) d)) → Sorted (by f) (take n xs)
   sorted_from xs zero h r = tt
   sorted_from [] (suc n) h r = absurd (not-suc-le-zero h)
   sorted_from (x ∷ xs) (suc n) h r =

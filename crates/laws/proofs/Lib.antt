@@ -3,13 +3,13 @@ pub mod Bounds
 pub mod Counts
 pub mod Exact
 pub mod Filters
+pub mod Insertion
 pub mod Inverses
 pub mod Joins
 pub mod Keyed
 pub mod Lanes
 pub mod Lists
 pub mod Order
-pub mod Permuted
 pub mod Rounding
 pub mod Rows
 pub mod Runs
