@@ -19,10 +19,10 @@ fn score_passes(formed: &Formed) -> bool
     let bytes = fields.bytes;
     let tempo = finite_at(bytes, fields.body(1));
     let chords = chords_within(chords_from(bytes, fields.body(2)));
-    let lead = notes_pass(fields, 4, true);
-    let keys = notes_pass(fields, 5, false);
-    let hits = hits_pass(fields, 6);
-    let bass = notes_pass(fields, 7, false);
+    let lead = notes_pass(formed, 4, true);
+    let keys = notes_pass(formed, 5, false);
+    let hits = hits_pass(formed, 6);
+    let bass = notes_pass(formed, 7, false);
     tempo & chords & lead & keys & hits & bass
 }
 
