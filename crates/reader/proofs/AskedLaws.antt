@@ -63,16 +63,21 @@ refused_by false b x y r e = let z : Refusal.SheetFields ≡ r = cc in ap (λ (q
 passed : (bytes : List ℕ) → formed bytes ≡ true → (coded bytes && within (song_in bytes)) ≡ true → Passes bytes
 passed bytes f e = let b = both (coded bytes) (within (song_in bytes)) e in record { formed = f; coded = b.0; within = b.1 }
 
-pub tested_passes : (bytes : List ℕ) → tested_of bytes ≡ Ok tt → Passes bytes
+pub tested_passes : (bytes out : List ℕ) → tested_of bytes ≡ Ok out → Passes bytes
 unfolding tested_of
-tested_passes bytes e =
-    let a = by_tests (formed bytes) (coded bytes && within (song_in bytes)) tt tt e in
+tested_passes bytes out e =
+    let a = by_tests (formed bytes) (coded bytes && within (song_in bytes)) bytes out e in
     passed bytes a.0 a.1
+
+-- what is told of a sheet is told of its own bytes
+pub tested_same : (bytes out : List ℕ) → tested_of bytes ≡ Ok out → bytes ≡ out
+unfolding tested_of
+tested_same bytes out e = (by_tests (formed bytes) (coded bytes && within (song_in bytes)) bytes out e).2
 
 -- a refusal is what reading answers, and nothing else
 pub read_refused_lem : (bytes : List ℕ) (r : Refusal) → tested_of bytes ≡ Err r → read_of bytes ≡ Err r
 unfolding tested_of read_of
-read_refused_lem bytes r e = refused_by (formed bytes) (coded bytes && within (song_in bytes)) tt (song_in bytes) r e
+read_refused_lem bytes r e = refused_by (formed bytes) (coded bytes && within (song_in bytes)) bytes (song_in bytes) r e
 
 pub passes : (bytes : List ℕ) (v : Song) → read_of bytes ≡ Ok v → Passes bytes
 unfolding read_of

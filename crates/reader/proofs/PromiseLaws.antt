@@ -3,8 +3,7 @@ use mathlib.Core.Path.{◌≡◌, refl, sym, ap, ◌∙◌}
 use mathlib.Core.Bool.{true}
 use mathlib.Core.List.{List}
 use Prim.Native.Nat.{ℕ}
-use native.Mathlib.Omega.{arith}
-use Rattle.composer.specs.Refusal.{Answer, Gives, Refuses, answered}
+use Rattle.composer.specs.Refusal.{Gives, answered}
 use Rattle.std.proofs.Common.{Ok}
 use Rattle.composer.proofs.RefusalLaws.{gives_ok}
 use Rattle.pages.specs.Answer.{Writes, bytes_of}

@@ -7,10 +7,11 @@ use Prim.Native.Nat.{ℕ, zero, suc, ◌+◌, ◌≤◌, ◌<◌}
 use native.Mathlib.Nat.{eq-or-lt_of_le, le_of_suc-le-suc}
 use native.Mathlib.Omega.{arith}
 use lib.ListN.{length}
-use Rattle.pages.specs.Edition.{edition_size}
+use Rattle.std.proofs.Math.Nat.{mul-div-le}
+use Rattle.pages.specs.Edition.{note_width, edition_size}
 use Rattle.reader.specs.Inner.Layout.{Roomy}
 use Rattle.reader.specs.Layout.{edition_in, start_at, body_at, size_at, formed}
-use Rattle.reader.proofs.FitLaws.{whole_size, last_start_lem, entries}
+use Rattle.reader.proofs.FitLaws.{last_start_lem, entries}
 
 -- ---- the first of the ten stands behind the edition's own, and each other begins where the one before it ends
 pub first_start : (bytes : List ℕ) → start_at bytes 0 ≡ edition_size (edition_in bytes)
@@ -40,13 +41,11 @@ module _ (bytes : List ℕ) (ok : formed bytes ≡ true) where
     chords = omega (arith, entries bytes ok 2 (omega arith), body_ends 2 (omega arith));
     scale = body_ends 3 (omega arith);
     scale_few = omega (arith, entries bytes ok 3 (omega arith));
-    lead = omega (arith, whole_size (entries bytes ok 4 (omega arith)), body_ends 4 (omega arith));
+    notes = λ k h. omega (arith, mul-div-le (size_at bytes k) (note_width (edition_in bytes)), body_ends k h);
+    hits = λ k h. omega (arith, body_ends k h);
     lead_few = (entries bytes ok 4 (omega arith)).most;
-    keys = omega (arith, whole_size (entries bytes ok 5 (omega arith)), body_ends 5 (omega arith));
     keys_few = (entries bytes ok 5 (omega arith)).most;
-    hits = omega (arith, entries bytes ok 6 (omega arith), body_ends 6 (omega arith));
     hits_few = (entries bytes ok 6 (omega arith)).most;
-    bass = omega (arith, whole_size (entries bytes ok 7 (omega arith)), body_ends 7 (omega arith));
     bass_few = (entries bytes ok 7 (omega arith)).most;
     ends = omega (arith, entries bytes ok 8 (omega arith), body_ends 8 (omega arith));
     plays = body_ends 9 (omega arith);

@@ -2,9 +2,8 @@
 // who asks tests the codes as well.
 ghost use Rattle.std.specs.Prelude.{◌≡◌, ◌+◌, ◌*◌, ◌≤◌, length};
 ghost use Rattle.reader.specs.Codes.{voice_coded, lead_role_coded, role_coded, kind_coded, bars_coded, edge_coded, end_coded, outro_coded, plays_coded, end_known, outro_known, name_known, kinds_known, ends_known, plays_known, coded};
-ghost use Rattle.reader.specs.Inner.Layout.{Roomy};
 
-use crate::layout::Fields;
+use crate::layout::Formed;
 use composer::form::ends::{Bars, Edge, End, Outro};
 use composer::form::plays::Plays;
 use composer::note::{DrumKind, NoteRole};
@@ -173,10 +172,10 @@ fn plays_known(bytes: &[u8], at: usize, n: usize) -> bool
 
 // Whether every code of formed bytes is known.
 #[tactic(auto, unfolding(crate::specs::Codes::coded))]
-pub(crate) fn is_coded(fields: &Fields) -> bool
-    requires { Roomy fields.now.bytes.now }
-    ensures { result ≡ coded fields.now.bytes.now }
+pub(crate) fn is_coded(formed: &Formed) -> bool
+    ensures { result ≡ coded formed.now.fields.bytes.now }
 {
+    let fields = &formed.fields;
     let bytes = fields.bytes;
     let name = name_known(bytes, fields.body(0));
     let kinds = kinds_known(bytes, fields.body(6), fields.hits(6));

@@ -11,7 +11,7 @@ ghost use Rattle.reader.specs.Song.{note_at, hit_at, notes_at, hits_at, note_cou
 ghost use Rattle.reader.specs.Within.{role_within, note_within, hit_within};
 
 use crate::codes::{kind_coded, role_coded};
-use crate::layout::Fields;
+use crate::layout::Formed;
 use composer::note::{Hit, NO_HIT, NO_NOTE, Note, NoteRole};
 use pages::edition::Edition;
 use pages::get::{byte_in, f32_at, finite_at};
@@ -102,11 +102,11 @@ fn hit_at(bytes: &[u8], at: usize) -> Hit
 }
 
 // Whether the notes of field k are in range: the first that is not ends the test.
-pub(crate) fn notes_pass(fields: &Fields, k: usize, leads: bool) -> bool
-    requires field { k < 10 }
-    requires room { let b = fields.now.bytes.now in body_at b k + note_width (edition_in b) * note_count_in b k ≤ length b }
-    ensures { let b = fields.now.bytes.now in result ≡ notes_pass (edition_in b) leads b (body_at b k) (note_count_in b k) }
+pub(crate) fn notes_pass(formed: &Formed, k: usize, leads: bool) -> bool
+    requires { k < 10 }
+    ensures { let b = formed.now.fields.bytes.now in result ≡ notes_pass (edition_in b) leads b (body_at b k) (note_count_in b k) }
 {
+    let fields = &formed.fields;
     let bytes = fields.bytes;
     let edition = fields.edition;
     let at = fields.body(k);
@@ -115,11 +115,11 @@ pub(crate) fn notes_pass(fields: &Fields, k: usize, leads: bool) -> bool
 }
 
 // Whether the hits of field k are in range.
-pub(crate) fn hits_pass(fields: &Fields, k: usize) -> bool
-    requires field { k < 10 }
-    requires room { let b = fields.now.bytes.now in body_at b k + 10 * hit_count_in b k ≤ length b }
-    ensures { let b = fields.now.bytes.now in result ≡ hits_pass b (body_at b k) (hit_count_in b k) }
+pub(crate) fn hits_pass(formed: &Formed, k: usize) -> bool
+    requires { k < 10 }
+    ensures { let b = formed.now.fields.bytes.now in result ≡ hits_pass b (body_at b k) (hit_count_in b k) }
 {
+    let fields = &formed.fields;
     let bytes = fields.bytes;
     let at = fields.body(k);
     (0..fields.hits(k)).all(|i| hit_passes(bytes, at + 10 * i))
@@ -127,13 +127,13 @@ pub(crate) fn hits_pass(fields: &Fields, k: usize) -> bool
 
 // The lane of field k: its notes, and zeros behind them.
 #[tactic(auto, using(laws::proofs::Lists::pad_start, crate::proofs::LoopLaws::padded_more, crate::proofs::WidthLaws::width_fits))]
-pub(crate) fn notes_at<const N: usize>(fields: &Fields, k: usize, leads: bool) -> [Note; N]
+pub(crate) fn notes_at<const N: usize>(formed: &Formed, k: usize, leads: bool) -> [Note; N]
     requires field { k < 10 }
-    requires room { let b = fields.now.bytes.now in body_at b k + note_width (edition_in b) * note_count_in b k ≤ length b }
-    requires few { let b = fields.now.bytes.now in note_count_in b k ≤ N }
-    requires pass { let b = fields.now.bytes.now in notes_pass (edition_in b) leads b (body_at b k) (note_count_in b k) ≡ true }
-    ensures { let b = fields.now.bytes.now in result ≡ pad no_note N (notes_at (edition_in b) leads b (body_at b k) (note_count_in b k)) }
+    requires few { let b = formed.now.fields.bytes.now in note_count_in b k ≤ N }
+    requires pass { let b = formed.now.fields.bytes.now in notes_pass (edition_in b) leads b (body_at b k) (note_count_in b k) ≡ true }
+    ensures { let b = formed.now.fields.bytes.now in result ≡ pad no_note N (notes_at (edition_in b) leads b (body_at b k) (note_count_in b k)) }
 {
+    let fields = &formed.fields;
     let bytes = fields.bytes;
     let edition = fields.edition;
     let at = fields.body(k);
@@ -147,13 +147,13 @@ pub(crate) fn notes_at<const N: usize>(fields: &Fields, k: usize, leads: bool) -
 
 // The same of hits.
 #[tactic(auto, using(laws::proofs::Lists::pad_start, crate::proofs::LoopLaws::padded_more))]
-pub(crate) fn hits_at<const N: usize>(fields: &Fields, k: usize) -> [Hit; N]
+pub(crate) fn hits_at<const N: usize>(formed: &Formed, k: usize) -> [Hit; N]
     requires field { k < 10 }
-    requires room { let b = fields.now.bytes.now in body_at b k + 10 * hit_count_in b k ≤ length b }
-    requires few { let b = fields.now.bytes.now in hit_count_in b k ≤ N }
-    requires pass { let b = fields.now.bytes.now in hits_pass b (body_at b k) (hit_count_in b k) ≡ true }
-    ensures { let b = fields.now.bytes.now in result ≡ pad no_hit N (hits_at b (body_at b k) (hit_count_in b k)) }
+    requires few { let b = formed.now.fields.bytes.now in hit_count_in b k ≤ N }
+    requires pass { let b = formed.now.fields.bytes.now in hits_pass b (body_at b k) (hit_count_in b k) ≡ true }
+    ensures { let b = formed.now.fields.bytes.now in result ≡ pad no_hit N (hits_at b (body_at b k) (hit_count_in b k)) }
 {
+    let fields = &formed.fields;
     let bytes = fields.bytes;
     let at = fields.body(k);
     let mut out = [NO_HIT; N];

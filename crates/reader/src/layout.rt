@@ -2,6 +2,7 @@
 ghost use Rattle.std.specs.Prelude.{◌≡◌, ℕ, ◌<◌, get_or};
 ghost use Rattle.reader.specs.Layout.{edition_in, start_at, body_at, size_at, entries_fit, length_fits, led, formed};
 ghost use Rattle.reader.specs.Tests.{all_to};
+ghost use Rattle.reader.specs.Inner.Layout.{Roomy};
 
 use pages::edition::Edition;
 use pages::get::{byte_at, u16_at};
@@ -19,6 +20,14 @@ pub struct Fields<'a> {
     pub ghost bodies_are: { (k : ℕ) → k < 10 → get_or bodies k 0 ≡ body_at bytes.now k },
     pub ghost sizes_are: { (k : ℕ) → k < 10 → get_or sizes k 0 ≡ size_at bytes.now k },
     pub ghost end_is: { end ≡ start_at bytes.now 10 },
+}
+
+// The fields of a formed sheet: each body stands in the bytes, and no array is too small for it. That is told once, of
+// the type, and not by each function that reads such a sheet.
+#[derive(Clone, Copy)]
+pub struct Formed<'a> {
+    pub fields: Fields<'a>,
+    pub ghost roomy: { Roomy fields.bytes.now },
 }
 
 impl<'a> Fields<'a> {

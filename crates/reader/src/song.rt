@@ -2,14 +2,13 @@
 ghost use Rattle.std.specs.Prelude.{true, ◌≡◌, ◌+◌, ◌*◌, ◌≤◌, length};
 ghost use Rattle.laws.specs.Lists.{pad};
 ghost use Rattle.composer.specs.Form.Plays.{silent};
-ghost use Rattle.reader.specs.Inner.Layout.{Roomy};
 ghost use Rattle.reader.specs.Layout.{edition_in};
 ghost use Rattle.reader.specs.Within.{score_within, within};
 ghost use Rattle.reader.specs.Song.{chord_from, chords_from, scale_at, score_in, plays_from, form_in, song_in};
 
 use crate::codes::{end_coded, outro_coded, plays_coded, voice_coded};
 use crate::event::{hits_at, notes_at};
-use crate::layout::Fields;
+use crate::layout::Formed;
 use composer::chord::{Chord, NO_CHORD};
 use composer::compose::style_by;
 use composer::few::Few;
@@ -72,11 +71,11 @@ pub(crate) fn scale_at(bytes: &[u8], at: usize, n: usize) -> Scale
     Scale { pcs, n }
 }
 
-fn score_in(fields: &Fields) -> Score
-    requires roomy { Roomy fields.now.bytes.now }
-    requires within { score_within (edition_in fields.now.bytes.now) (score_in fields.now.bytes.now) ≡ true }
-    ensures { result ≡ score_in fields.now.bytes.now }
+fn score_in(formed: &Formed) -> Score
+    requires { let b = formed.now.fields.bytes.now in score_within (edition_in b) (score_in b) ≡ true }
+    ensures { result ≡ score_in formed.now.fields.bytes.now }
 {
+    let fields = &formed.fields;
     let bytes = fields.bytes;
     let name = fields.body(0);
     Score {
@@ -84,19 +83,19 @@ fn score_in(fields: &Fields) -> Score
         bpm: f32_at(bytes, fields.body(1)),
         bar_chords: chords_from(bytes, fields.body(2)),
         lead: Few {
-            at: notes_at(fields, 4, true),
+            at: notes_at(formed, 4, true),
             n: fields.notes(4),
         },
         keys: Few {
-            at: notes_at(fields, 5, false),
+            at: notes_at(formed, 5, false),
             n: fields.notes(5),
         },
         hits: Few {
-            at: hits_at(fields, 6),
+            at: hits_at(formed, 6),
             n: fields.hits(6),
         },
         bass: Few {
-            at: notes_at(fields, 7, false),
+            at: notes_at(formed, 7, false),
             n: fields.notes(7),
         },
         lead_voice: voice_coded(byte_in(bytes, name + 9)),
@@ -119,41 +118,41 @@ fn plays_from(bytes: &[u8], at: usize, n: usize) -> [Plays; 64]
 
 // The intro and the outro, each by its code and its bars.
 #[tactic(auto, unfolding(crate::specs::Song::form_in))]
-pub(crate) fn intro_in(fields: &Fields) -> End
-    requires { Roomy fields.now.bytes.now }
-    ensures { result ≡ (form_in fields.now.bytes.now).intro }
+pub(crate) fn intro_in(formed: &Formed) -> End
+    ensures { result ≡ (form_in formed.now.fields.bytes.now).intro }
 {
+    let fields = &formed.fields;
     let at = fields.body(8);
     end_coded(byte_in(fields.bytes, at), byte_in(fields.bytes, at + 1))
 }
 
 #[tactic(auto, unfolding(crate::specs::Song::form_in))]
-pub(crate) fn outro_in(fields: &Fields) -> Outro
-    requires { Roomy fields.now.bytes.now }
-    ensures { result ≡ (form_in fields.now.bytes.now).outro }
+pub(crate) fn outro_in(formed: &Formed) -> Outro
+    ensures { result ≡ (form_in formed.now.fields.bytes.now).outro }
 {
+    let fields = &formed.fields;
     let at = fields.body(8);
     outro_coded(byte_in(fields.bytes, at + 3), byte_in(fields.bytes, at + 4))
 }
 
 #[tactic(auto, unfolding(crate::specs::Song::form_in))]
-pub(crate) fn phrases_in(fields: &Fields) -> u8
-    requires { Roomy fields.now.bytes.now }
-    ensures { result ≡ (form_in fields.now.bytes.now).phrases }
+pub(crate) fn phrases_in(formed: &Formed) -> u8
+    ensures { result ≡ (form_in formed.now.fields.bytes.now).phrases }
 {
+    let fields = &formed.fields;
     byte_in(fields.bytes, fields.body(8) + 2)
 }
 
 #[tactic(auto, unfolding(crate::specs::Song::form_in))]
-fn form_in(fields: &Fields) -> Form
-    requires { Roomy fields.now.bytes.now }
-    ensures { result ≡ form_in fields.now.bytes.now }
+fn form_in(formed: &Formed) -> Form
+    ensures { result ≡ form_in formed.now.fields.bytes.now }
 {
+    let fields = &formed.fields;
     let bars = fields.size(9);
     Form {
-        intro: intro_in(fields),
-        phrases: phrases_in(fields),
-        outro: outro_in(fields),
+        intro: intro_in(formed),
+        phrases: phrases_in(formed),
+        outro: outro_in(formed),
         dip: byte_in(fields.bytes, fields.body(8) + 5) == 1,
         plays: plays_from(fields.bytes, fields.body(9), bars),
         bars: bars as u8,
@@ -162,16 +161,16 @@ fn form_in(fields: &Fields) -> Form
 
 // The song that formed bytes name whose numbers are in range, field by field; its codes are tested in codes.rt.
 #[tactic(auto, unfolding(crate::specs::Song::song_in))]
-pub(crate) fn song_in(fields: &Fields) -> Song
-    requires roomy { Roomy fields.now.bytes.now }
-    requires within { within (song_in fields.now.bytes.now) ≡ true }
-    ensures { result ≡ song_in fields.now.bytes.now }
+pub(crate) fn song_in(formed: &Formed) -> Song
+    requires { within (song_in formed.now.fields.bytes.now) ≡ true }
+    ensures { result ≡ song_in formed.now.fields.bytes.now }
 {
+    let fields = &formed.fields;
     Song {
         edition: fields.edition,
         seed: u64_at(fields.bytes, fields.body(0) + 1),
-        score: score_in(fields),
+        score: score_in(formed),
         scale: scale_at(fields.bytes, fields.body(3), fields.size(3)),
-        form: form_in(fields),
+        form: form_in(formed),
     }
 }

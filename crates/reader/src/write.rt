@@ -8,7 +8,6 @@ ghost use Rattle.reader.specs.Value.{Typed};
 ghost use Rattle.reader.specs.Within.{within};
 
 use crate::cleared::is_cleared;
-use crate::layout::Fields;
 use crate::read::tested;
 use crate::song::Song;
 use crate::within::is_within;
@@ -55,7 +54,6 @@ pub fn reread(sheet: &[u8], buf: &mut [u8]) -> Result<usize, Refusal>
     ensures buf_after { buf.new ≡ buffer_of buf.old (reread_asked sheet.now) }
     ensures octets { Octets sheet.now }
 {
-    let fields = Fields::of(sheet);
-    tested(&fields)?;
+    tested(sheet)?;
     bytes_into(sheet, buf)
 }

@@ -7,6 +7,6 @@ use Rattle.reader.specs.Read.{read_by}
 use Rattle.reader.specs.Song.{song_in}
 use Rattle.reader.specs.Within.{within}
 
--- the refusals of `read_of`, or none
-unfoldable pub tested_of : List ℕ → Result (Unit {0}) Refusal
-tested_of bytes = read_by (formed bytes) (coded bytes && within (song_in bytes)) tt
+-- the bytes, if they pass the tests of `read_of`; its refusals else
+unfoldable pub tested_of : List ℕ → Result (List ℕ) Refusal
+tested_of bytes = read_by (formed bytes) (coded bytes && within (song_in bytes)) bytes

@@ -9,6 +9,6 @@ use Rattle.reader.proofs.event.hits_at.Goals as goal
 
 pub hit_at-requires-clause-within : goal.hit_at-requires-clause-within
 hit_at-requires-clause-within g c =
-    let b = c.args.fields.now.bytes.now in
+    let b = c.args.formed.now.fields.bytes.now in
     let k = c.args.k in
     rw c.body-at.ensures (all_to_at (λ i. hit_within (hit_at b (body_at b k + 10 * i))) (hit_count_in b k) c.requires.pass c.loop-i.i (omega arith))

@@ -16,7 +16,7 @@ use Rattle.reader.proofs.event.hits_pass.Goals as goal
 pub returns : goal.returns
 returns c =
     let k = c.args.k in
-    let b = c.args.fields.now.bytes.now in
+    let b = c.args.formed.now.fields.bytes.now in
     all_from_yields_List (λ i. hit_within (hit_at b (body_at b k + 10 * i))) _ _ _ c.all.ensures.ran (YieldsList-from_range 0 c.hits.result c.hits.result refl (omega arith)) (λ x b q k. search (rules, tests))
     ∙ all_in_range _ c.hits.result
     ∙ ap (all_to _) c.hits.ensures

@@ -10,7 +10,7 @@ use Rattle.reader.proofs.event.notes_at.Goals as goal
 
 pub note_at-requires-clause-within : goal.note_at-requires-clause-within
 note_at-requires-clause-within g c =
-    let f = c.args.fields.now in
+    let f = c.args.formed.now.fields in
     let b = f.bytes.now in
     let k = c.args.k in
     let e = edition_in b in

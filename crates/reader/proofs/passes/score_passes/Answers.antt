@@ -10,9 +10,9 @@ use Rattle.reader.proofs.passes.score_passes.Goals as goal
 pub returns : goal.returns
 unfolding score_in score_within
 returns c =
-    let b = c.args.fields.now.bytes.now in
+    let b = c.args.formed.now.fields.bytes.now in
     let e = edition_in b in
-    let r = c.requires in
+    let r = c.args.formed.now.roomy in
     rw (
       c.finite_at-tempo.ensures,
       c.body.ensures,

@@ -12,33 +12,25 @@ use Rattle.reader.proofs.read.tested.Goals as goal
 told : {a a' b b' t : Bool} → a ≡ a' → b ≡ b' → (a && b) ≡ t → (a' && b') ≡ t
 told p q e = rw (p, q) at e
 
-pub returns-then-not-formed : goal.returns-then-not-formed
+pub returns-then-not-is_formed : goal.returns-then-not-is_formed
 unfolding tested_of
-returns-then-not-formed c =
-    let f = c.is_formed-formed in
-    let e : formed c.args.fields.now.bytes.now ≡ false = sym f.ensures ∙ c.if-not-formed.true in
-    rw e
+returns-then-not-is_formed c =
+    let e : formed c.of-fields.result.bytes.now ≡ false = sym c.is_formed.ensures ∙ c.if-not-is_formed.true in
+    rw (sym c.of-fields.ensures, e)
 
-pub is_coded-coded-requires : goal.is_coded-coded-requires
-is_coded-coded-requires c = formed_roomy c.args.fields.now.bytes.now (sym c.is_formed-formed.ensures ∙ c.if-not-formed.false)
-
-pub song_passes-within-requires : goal.song_passes-within-requires
-song_passes-within-requires c = formed_roomy c.args.fields.now.bytes.now (sym c.is_formed-formed.ensures ∙ c.if-not-formed.false)
+pub invariant_of-formed : goal.invariant_of-formed
+invariant_of-formed c = record { roomy = formed_roomy c.of-fields.result.bytes.now (sym c.is_formed.ensures ∙ c.if-not-is_formed.false) }
 
 pub returns-then-not-coded-within : goal.returns-then-not-coded-within
 unfolding tested_of
 returns-then-not-coded-within c =
-    let b = c.args.fields.now.bytes.now in
-    let w = c.song_passes-within in
-    let k = c.is_coded-coded in
-    let n : (coded b && within (song_in b)) ≡ false = told k.ensures w.ensures c.if-not-coded-within.true in
-    rw (sym c.is_formed-formed.ensures ∙ c.if-not-formed.false, n)
+    let b = c.of-fields.result.bytes.now in
+    let n : (coded b && within (song_in b)) ≡ false = told c.is_coded-coded.ensures c.song_passes-within.ensures c.if-not-coded-within.true in
+    rw (sym c.of-fields.ensures, sym c.is_formed.ensures ∙ c.if-not-is_formed.false, n)
 
 pub returns : goal.returns
 unfolding tested_of
 returns c =
-    let b = c.args.fields.now.bytes.now in
-    let w = c.song_passes-within in
-    let k = c.is_coded-coded in
-    let y : (coded b && within (song_in b)) ≡ true = told k.ensures w.ensures c.if-not-coded-within.false in
-    rw (sym c.is_formed-formed.ensures ∙ c.if-not-formed.false, y)
+    let b = c.of-fields.result.bytes.now in
+    let y : (coded b && within (song_in b)) ≡ true = told c.is_coded-coded.ensures c.song_passes-within.ensures c.if-not-coded-within.false in
+    rw (sym c.of-fields.ensures, sym c.is_formed.ensures ∙ c.if-not-is_formed.false, y)

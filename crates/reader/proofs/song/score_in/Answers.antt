@@ -38,19 +38,19 @@ passing b r ok =
     }
 
 pub f32_at-requires-clause-finite : goal.f32_at-requires-clause-finite
-f32_at-requires-clause-finite c = rw c.body.ensures (passing _ c.requires.roomy c.requires.within).bpm
+f32_at-requires-clause-finite c = rw c.body.ensures (passing _ c.args.formed.now.roomy c.requires).bpm
 
 pub notes_at-requires : goal.notes_at-requires
-notes_at-requires c = let p = passing _ c.requires.roomy c.requires.within in search rules
+notes_at-requires c = let p = passing _ c.args.formed.now.roomy c.requires in search rules
 
 pub notes_at-requires-2 : goal.notes_at-requires-2
-notes_at-requires-2 c = let p = passing _ c.requires.roomy c.requires.within in search rules
+notes_at-requires-2 c = let p = passing _ c.args.formed.now.roomy c.requires in search rules
 
 pub hits_at-requires : goal.hits_at-requires
-hits_at-requires c = let p = passing _ c.requires.roomy c.requires.within in search rules
+hits_at-requires c = let p = passing _ c.args.formed.now.roomy c.requires in search rules
 
 pub notes_at-requires-3 : goal.notes_at-requires-3
-notes_at-requires-3 c = let p = passing _ c.requires.roomy c.requires.within in search rules
+notes_at-requires-3 c = let p = passing _ c.args.formed.now.roomy c.requires in search rules
 
 pub returns : goal.returns
 unfolding score_in

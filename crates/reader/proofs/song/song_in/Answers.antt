@@ -3,6 +3,6 @@ use Rattle.reader.specs.Song.{song_in}
 use Rattle.reader.proofs.TestedLaws.{within_told}
 use Rattle.reader.proofs.song.song_in.Goals as goal
 
-pub score_in-requires-clause-within : goal.score_in-requires-clause-within
+pub score_in-requires : goal.score_in-requires
 unfolding song_in
-score_in-requires-clause-within c = (within_told (song_in c.args.fields.now.bytes.now) c.requires.within).0
+score_in-requires c = (within_told (song_in c.args.formed.now.fields.bytes.now) c.requires).0
