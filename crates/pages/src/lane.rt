@@ -86,10 +86,10 @@ fn put_events(buf: &mut [u8], at: usize, edition: Edition, s: &Score, lane: Lane
     ensures { Wrote buf.old buf.new at result (width_of edition lane * (run.to - run.from)) (joined (run_of run (events_of edition s.now lane))) }
 {
     match lane {
-        Lane::Lead => put_each(buf, at, edition, &s.lead.at[..s.lead.n], run),
-        Lane::Keys => put_each(buf, at, edition, &s.keys.at[..s.keys.n], run),
-        Lane::Hits => put_each(buf, at, edition, &s.hits.at[..s.hits.n], run),
-        Lane::Bass => put_each(buf, at, edition, &s.bass.at[..s.bass.n], run),
+        Lane::Lead => put_each(buf, at, edition, s.lead.used(), run),
+        Lane::Keys => put_each(buf, at, edition, s.keys.used(), run),
+        Lane::Hits => put_each(buf, at, edition, s.hits.used(), run),
+        Lane::Bass => put_each(buf, at, edition, s.bass.used(), run),
     }
 }
 
@@ -130,10 +130,10 @@ impl<'a> PagedSong<'a> {
     {
         let s = self.score;
         match lane {
-            Lane::Lead => run_of_bar(&s.lead.at[..s.lead.n], bar),
-            Lane::Keys => run_of_bar(&s.keys.at[..s.keys.n], bar),
-            Lane::Hits => run_of_bar(&s.hits.at[..s.hits.n], bar),
-            Lane::Bass => run_of_bar(&s.bass.at[..s.bass.n], bar),
+            Lane::Lead => run_of_bar(s.lead.used(), bar),
+            Lane::Keys => run_of_bar(s.keys.used(), bar),
+            Lane::Hits => run_of_bar(s.hits.used(), bar),
+            Lane::Bass => run_of_bar(s.bass.used(), bar),
         }
     }
 

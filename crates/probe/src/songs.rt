@@ -140,9 +140,9 @@ fn score_sum(s: &Score, scale: &Scale) -> u64
     let tempo = plain_bits(s.bpm);
     let number = s.lead_voice.number();
     let chords = chords_sum(&s.bar_chords) + scale_sum(scale);
-    let high = notes_sum(&s.lead.at[..s.lead.n]) + notes_sum(&s.keys.at[..s.keys.n]);
-    let low = hits_sum(&s.hits.at[..s.hits.n]);
-    let events = high + low + notes_sum(&s.bass.at[..s.bass.n]);
+    let high = notes_sum(s.lead.used()) + notes_sum(s.keys.used());
+    let low = hits_sum(s.hits.used());
+    let events = high + low + notes_sum(s.bass.used());
     tempo as u64 + number as u64 + chords + events
 }
 

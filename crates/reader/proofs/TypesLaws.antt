@@ -76,17 +76,17 @@ song_typed v us p =
     let from = p.1.1.1 in
     let s = v.score in
     let bpm = from.1.0.1.1.1 in
-    let lead = bpm.1.1 in
-    let hits = lead.1.1.1.1 in
+    let lanes = bpm.1.1 in
+    let hits = lanes.1.1 in
     record {
       seed = from.0.1;
       shape = record {
         bpm = float_fits s.bpm bpm.0.1;
         chords = lane chord.the_row (λ c. length c.notes ≡ 4) past_chord chord_long 8 s.bar_chords _ bpm.1.0;
-        lead = notes_typed 56 s.lead.at _ lead.0;
-        keys = notes_typed 128 s.keys.at _ lead.1.1.0;
-        hits = lane hit.the_row TypedHit past_hit hit_typed 98 s.hits.at _ hits.0;
-        bass = notes_typed 104 s.bass.at _ hits.1.1.0;
+        lead = notes_typed 56 s.lead.at _ lanes.0.1.1.0;
+        keys = notes_typed 128 s.keys.at _ lanes.1.0.1.1.0;
+        hits = lane hit.the_row TypedHit past_hit hit_typed 98 s.hits.at _ hits.0.1.1.0;
+        bass = notes_typed 104 s.bass.at _ hits.1.0.1.1.0;
         pcs = long u8 6 v.scale.pcs _ from.1.1.0.1.1.0;
         plays = long plays.the_row 64 v.form.plays _ from.1.1.1.0.1.1.1.1.1.1.0;
       };

@@ -49,15 +49,15 @@ module _ (s : NoiseStream) (h : Harmony) (tonal : Tonal h) (style : Style) where
   pub song_ready : Ready (rhythm_of s l).value h.bars (pool_of h.scale) l
   song_ready = ready h tonal style (rhythm_of s l).value (rhythm_few s l)
 
-  pub sung_good : Good (pool_of h.scale) l.lo l.hi (sung_of s h style) × ((sung_of s h style).count ≤ 56)
+  pub sung_good : Good (pool_of h.scale) l.lo l.hi (sung_of s h style) × ((sung_of s h style).notes.n ≤ 56)
   unfolding sung_of
   sung_good = melody_good (rhythm_of s l).value h.bars (pool_of h.scale) l song_ready (rhythm_of s l).stream
 
-  sung_laid : Laid past_lead no_lead lead_bar 56 7 (sung_of s h style).notes (sung_of s h style).count
+  sung_laid : Laid past_lead no_lead lead_bar 56 7 (sung_of s h style).notes.at (sung_of s h style).notes.n
   unfolding sung_of
   sung_laid = melody_laid (rhythm_of s l).stream (rhythm_of s l).value h.bars (pool_of h.scale) l song_ready
 
-  sung_few : EachAtMost lead_bar 7 (take (sung_of s h style).count (sung_of s h style).notes)
+  sung_few : EachAtMost lead_bar 7 (take (sung_of s h style).notes.n (sung_of s h style).notes.at)
   unfolding sung_of
   sung_few = melody_few (rhythm_of s l).stream (rhythm_of s l).value h.bars (pool_of h.scale) l song_ready
 
@@ -65,13 +65,13 @@ module _ (s : NoiseStream) (h : Harmony) (tonal : Tonal h) (style : Style) where
     abbrev m : Sung
     m = sung_of s h style
 
-    same_count : (lead_of s h style beatS).value.n ≡ m.count
+    same_count : (lead_of s h style beatS).value.n ≡ m.notes.n
     unfolding lead_of
     same_count = played_count m beatS l.dur
 
     pub keeps : (i : ℕ) → i < (lead_of s h style beatS).value.n
-        → ((get_or (lead_of s h style beatS).value.at i past_note).bar ≡ lead_bar (get_or m.notes i past_lead)) × ((get_or (lead_of s h style beatS).value.at i past_note).midi ≡ (get_or m.notes i past_lead).note)
-        × ((get_or (lead_of s h style beatS).value.at i past_note).role ≡ noted_of (get_or m.notes i past_lead).role)
+        → ((get_or (lead_of s h style beatS).value.at i past_note).bar ≡ lead_bar (get_or m.notes.at i past_lead)) × ((get_or (lead_of s h style beatS).value.at i past_note).midi ≡ (get_or m.notes.at i past_lead).note)
+        × ((get_or (lead_of s h style beatS).value.at i past_note).role ≡ noted_of (get_or m.notes.at i past_lead).role)
     unfolding lead_of
     keeps i a = played_keeps m beatS l.dur sung_good.1 i (omega (arith, same_count))
 
@@ -80,13 +80,13 @@ module _ (s : NoiseStream) (h : Harmony) (tonal : Tonal h) (style : Style) where
         → (l.lo ≤ (get_or (lead_of s h style beatS).value.at i past_note).midi) × ((get_or (lead_of s h style beatS).value.at i past_note).midi ≤ l.hi)
         × (has_of (pcs_of h.scale) ((get_or (lead_of s h style beatS).value.at i past_note).midi % 12) ≡ true)
     lead_fits i a =
-        let note = (get_or m.notes i past_lead).note in
+        let note = (get_or m.notes.at i past_lead).note in
         let f = fits_what (pool_of h.scale) l.lo l.hi note (sung_good.0.notes i (omega (arith, same_count))) in
         rw (keeps i a).1 (f.0, f.1, sym (pool_at (pcs_of h.scale) (note % 12) (omega arith)) ∙ f.2)
 
     -- each note has one of the six roles
     pub lead_roles : (i : ℕ) → i < (lead_of s h style beatS).value.n → Leads (get_or (lead_of s h style beatS).value.at i past_note)
-    lead_roles i a = rw (keeps i a).2 (noted_six (get_or m.notes i past_lead).role)
+    lead_roles i a = rw (keeps i a).2 (noted_six (get_or m.notes.at i past_lead).role)
 
     -- at most 56 notes, bar after bar, and zero behind them
     pub lead_laid : Laid past_note no_note note_bar 56 7 (lead_of s h style beatS).value.at (lead_of s h style beatS).value.n
@@ -101,9 +101,9 @@ module _ (s : NoiseStream) (h : Harmony) (tonal : Tonal h) (style : Style) where
       rest = λ i a b. played_rest m beatS l.dur i (omega (arith, same_count)) b;
     }
 
-    same_in_bar : (v : ℕ) → count (λ x. eqb (note_bar x) v) (take (lead_of s h style beatS).value.n (lead_of s h style beatS).value.at) ≡ count (λ x. eqb (lead_bar x) v) (take (lead_of s h style beatS).value.n m.notes)
+    same_in_bar : (v : ℕ) → count (λ x. eqb (note_bar x) v) (take (lead_of s h style beatS).value.n (lead_of s h style beatS).value.at) ≡ count (λ x. eqb (lead_bar x) v) (take (lead_of s h style beatS).value.n m.notes.at)
     same_in_bar v =
-        count_same (λ x. eqb (note_bar x) v) (λ x. eqb (lead_bar x) v) past_note past_lead (lead_of s h style beatS).value.at m.notes (lead_of s h style beatS).value.n
+        count_same (λ x. eqb (note_bar x) v) (λ x. eqb (lead_bar x) v) past_note past_lead (lead_of s h style beatS).value.at m.notes.at (lead_of s h style beatS).value.n
         (omega (arith, lead_laid.few, lead_laid.size))
         (omega (arith, lead_laid.few, sung_laid.size))
         (λ i a. ap (λ (b : ℕ). eqb b v) (keeps i a).0)

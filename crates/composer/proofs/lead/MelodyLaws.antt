@@ -45,7 +45,7 @@ module _ (pool : List Bool) (lo hi : ℕ) where
   first_on n p q t = rw (add-one, eqb-suc-zero) t
 
   good_put : (l : List LeadNote) (n : ℕ) (x : LeadNote) (m : Line) → length l ≡ 56 → n < 56 → ((j : ℕ) → j < n → T (fits_of pool lo hi (get_or l j past_lead).note)) → T (fits_of pool lo hi x.note)
-      → ((next : ℕ) → T (fits_of pool lo hi next) → Fit pool lo hi m next) → Good pool lo hi (record { notes = set l n x; count = n + 1; line = m })
+      → ((next : ℕ) → T (fits_of pool lo hi next) → Fit pool lo hi m next) → Good pool lo hi (record { notes = record { at = set l n x; n = n + 1 }; line = m })
   good_put l n x m e r ns t f =
       let all-on = notes_on l n x (omega arith) ns t in
       record {
@@ -56,30 +56,30 @@ module _ (pool : List Bool) (lo hi : ℕ) where
 
 -- ---- a bar
 module _ (pool : List Bool) (g : Ground) (bar : ℕ) (b : Beats) where
-  pub bar_count : (m : Sung) (i : ℕ) → (bar_to pool g bar b m i).count ≡ m.count + i
+  pub bar_count : (m : Sung) (i : ℕ) → (bar_to pool g bar b m i).notes.n ≡ m.notes.n + i
   unfolding bar_to sing_of
   bar_count m zero = omega arith
   bar_count m (suc i) = omega (arith, bar_count m i)
 
   -- one note more, over the code's own equations
-  pub bar_more : (m : Sung) (i : ℕ) (notes : List LeadNote) (count : ℕ) (line : Line) (p : Place) (first : ℕ) (t : LeadStep) → record { notes = notes; count = count; line = line } ≡ bar_to pool g bar b m i
+  pub bar_more : (m : Sung) (i : ℕ) (notes : List LeadNote) (count : ℕ) (line : Line) (p : Place) (first : ℕ) (t : LeadStep) → record { notes = record { at = notes; n = count }; line = line } ≡ bar_to pool g bar b m i
       → p ≡ place_of bar b i → first ≡ opening_of count line.prev (get_or notes 0 past_lead).note → t ≡ step_of pool g line p first
-      → record { notes = set notes count (record { bar = bar; beat = get_or b.at i nan; note = t.note; role = t.role; vel = t.vel }); count = count + 1; line = t.line } ≡ bar_to pool g bar b m (i + 1)
+      → record { notes = record { at = set notes count (record { bar = bar; beat = get_or b.at i nan; note = t.note; role = t.role; vel = t.vel }); n = count + 1 }; line = t.line } ≡ bar_to pool g bar b m (i + 1)
   unfolding bar_to sing_of
   bar_more m i notes count line p first t e f h u =
       let n : i + 1 ≡ suc i = add-one i in
       rw (n, ← e, u, h, f)
 
   module _ (sound : Sound pool g) where
-    good_sing : (m : Sung) (i : ℕ) → Good pool g.lo g.hi m → m.count < 56 → Good pool g.lo g.hi (sing_of pool g bar b m i)
+    good_sing : (m : Sung) (i : ℕ) → Good pool g.lo g.hi m → m.notes.n < 56 → Good pool g.lo g.hi (sing_of pool g bar b m i)
     unfolding sing_of step_of
     good_sing m i h room =
         let t = step_of pool g m.line (place_of bar b i) (first_sung_of m) in
         let fits = step_note_fits pool g sound m.line (place_of bar b i) (first_sung_of m) h.line in
-        good_put pool g.lo g.hi m.notes m.count (record { bar = bar; beat = get_or b.at i nan; note = t.note; role = t.role; vel = t.vel }) t.line h.size room h.notes fits
+        good_put pool g.lo g.hi m.notes.at m.notes.n (record { bar = bar; beat = get_or b.at i nan; note = t.note; role = t.role; vel = t.vel }) t.line h.size room h.notes fits
         (line_fits pool g.lo g.hi m.line (first_sung_of m) t.note h.line fits bar _)
 
-    pub good_bar : (m : Sung) (i : ℕ) → Good pool g.lo g.hi m → m.count + i ≤ 56 → Good pool g.lo g.hi (bar_to pool g bar b m i)
+    pub good_bar : (m : Sung) (i : ℕ) → Good pool g.lo g.hi m → m.notes.n + i ≤ 56 → Good pool g.lo g.hi (bar_to pool g bar b m i)
     unfolding bar_to
     good_bar m zero h room = h
     good_bar m (suc i) h room = good_sing (bar_to pool g bar b m i) i (good_bar m i h (omega arith)) (omega (arith, bar_count m i))
@@ -103,8 +103,8 @@ module _ (beats : List Beats) (bars : List Chord) (pool : List Bool) (style : Le
   abbrev ground : ℕ → Ground
   ground k = ground_of style (get_or bars k past_chord) pool
 
-  pub good_bars : (m : Sung) (k : ℕ) → k ≤ 8 → Good pool style.lo style.hi m → m.count ≡ 0
-      → Good pool style.lo style.hi (bars_to beats bars pool style m k) × ((bars_to beats bars pool style m k).count ≤ 7 * k)
+  pub good_bars : (m : Sung) (k : ℕ) → k ≤ 8 → Good pool style.lo style.hi m → m.notes.n ≡ 0
+      → Good pool style.lo style.hi (bars_to beats bars pool style m k) × ((bars_to beats bars pool style m k).notes.n ≤ 7 * k)
   unfolding bars_to ground_of
   good_bars m zero h g e = (g, omega arith)
   good_bars m (suc k) h g e =
@@ -116,7 +116,7 @@ module _ (beats : List Beats) (bars : List Chord) (pool : List Bool) (style : Le
         omega (arith, bar_count pool (ground k) k b n b.n, before.1, few),
       )
 
-  pub good_start : (s : NoiseStream) (m : Sung) (from : ℕ) → from ≡ first → m ≡ nothing_sung from s → Good pool style.lo style.hi m × (m.count ≡ 0)
+  pub good_start : (s : NoiseStream) (m : Sung) (from : ℕ) → from ≡ first → m ≡ nothing_sung from s → Good pool style.lo style.hi m × (m.notes.n ≡ 0)
   unfolding nothing_sung
   good_start s m from e f = rw (f, e) (good_open pool style.lo style.hi first s ready.start, refl)
 
@@ -140,7 +140,7 @@ module _ (beats : List Beats) (bars : List Chord) (pool : List Bool) (style : Le
       rw (t, h, gs) (sound, good_bar pool (ground k) k b sound (bars_to beats bars pool style start k) i before.0 (omega (arith, before.1, ready.few k k_lt)))
 
   -- every note is in the window and the scale, and there are at most 56
-  pub melody_good : (s : NoiseStream) → Good pool style.lo style.hi (melody_of s beats bars pool style) × ((melody_of s beats bars pool style).count ≤ 56)
+  pub melody_good : (s : NoiseStream) → Good pool style.lo style.hi (melody_of s beats bars pool style) × ((melody_of s beats bars pool style).notes.n ≤ 56)
   unfolding melody_of
   melody_good s =
       let g = good_start s (nothing_sung first s) first refl refl in

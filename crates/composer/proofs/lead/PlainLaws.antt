@@ -84,7 +84,7 @@ record PlainSung (x : LeadNote) : Type 0 where
   vel : In least most_peak x.vel
 
 abbrev Full : Sung → Type 0
-Full m = Filled past_lead PlainSung m.notes m.count
+Full m = Filled past_lead PlainSung m.notes.at m.notes.n
 
 same_in : (x : Float) → In least most x → In least most_peak x
 unfolding of_bits
@@ -106,7 +106,7 @@ module _ (pool : List Bool) (g : Ground) (isFair : T (stays g.velocity least mos
   bar_full m zero h f = f
   bar_full m (suc i) h f =
       let before = bar_to pool g bar b m i in
-      filled_push past_lead PlainSung before.notes before.count _ (bar_full m i (omega arith) f)
+      filled_push past_lead PlainSung before.notes.at before.notes.n _ (bar_full m i (omega arith) f)
       (record { bar = in_loop; beat = beats i (omega arith); vel = velocity_in (role_of before.line (place_of bar b i)).value _ (draw_in g.velocity least most isFair _) })
 
 module _ (style : LeadStyle) (isFair : T (stays style.velocity least most)) (beats : List Beats)
@@ -130,7 +130,7 @@ sung_full s h style =
     let l = lead_style_of style in
     let r = rhythm_of s l in
     let m = nothing_sung (start_of l (get_or h.bars 0 past_chord) (pool_of h.scale)) r.stream in
-    bars_full l (style_fair style) r.value (beat_in s l) h.bars (pool_of h.scale) m 8 (omega arith) (filled_none past_lead PlainSung m.notes)
+    bars_full l (style_fair style) r.value (beat_in s l) h.bars (pool_of h.scale) m 8 (omega arith) (filled_none past_lead PlainSung m.notes.at)
 
 -- ---- as played
 dur_in : (style : Style) → In shortest longest (lead_style_of style).dur
@@ -165,9 +165,9 @@ module _ (beatS : Float) (beat : In quickest slowest beatS) where
       (unfold add mul le in tt)
       (unfold add mul le in tt)
 
-  module _ (m : Sung) (sung : (i : ℕ) → i < m.count → PlainSung (get_or m.notes i past_lead)) (dur : Float) (held : In shortest longest dur)
+  module _ (m : Sung) (sung : (i : ℕ) → i < m.notes.n → PlainSung (get_or m.notes.at i past_lead)) (dur : Float) (held : In shortest longest dur)
       (fit : Fits32 dur) where
-    play_full : (s : NoiseStream) (k : ℕ) → k ≤ m.count → Filled past_note PlainNote (play_to m beatS dur (silence_of s) k).value.at (play_to m beatS dur (silence_of s) k).value.n
+    play_full : (s : NoiseStream) (k : ℕ) → k ≤ m.notes.n → Filled past_note PlainNote (play_to m beatS dur (silence_of s) k).value.at (play_to m beatS dur (silence_of s) k).value.n
     unfolding play_to play_of played_note_of
     play_full s zero h = filled_none past_note PlainNote (silence_of s).value.at
     play_full s (suc k) h =
@@ -175,7 +175,7 @@ module _ (beatS : Float) (beat : In quickest slowest beatS) where
         let x = sung k (omega arith) in
         filled_push past_note PlainNote l.value.at l.value.n _ (play_full s k (omega arith))
         (record {
-          at = played_at l.stream (get_or m.notes k past_lead) x;
+          at = played_at l.stream (get_or m.notes.at k past_lead) x;
           vel = accented_in _ _ x.vel;
           dur = held;
           at_fits = after_fits lead_lag _ l.stream;
@@ -185,12 +185,12 @@ module _ (beatS : Float) (beat : In quickest slowest beatS) where
         })
 
   module _ (s : NoiseStream) (h : Harmony) (tonal : Tonal h) (style : Style) where
-    sung_plain : (i : ℕ) → i < (sung_of s h style).count → PlainSung (get_or (sung_of s h style).notes i past_lead)
+    sung_plain : (i : ℕ) → i < (sung_of s h style).notes.n → PlainSung (get_or (sung_of s h style).notes.at i past_lead)
     sung_plain i k = let good = sung_good s h tonal style in sung_full s h style i k (omega (arith, good.0.size, good.1))
 
     filled : Filled past_note PlainNote (lead_of s h style beatS).value.at (lead_of s h style beatS).value.n
     unfolding lead_of played_of
-    filled = let m = sung_of s h style in play_full m sung_plain (lead_style_of style).dur (dur_in style) (dur_fits style) m.line.stream m.count (omega arith)
+    filled = let m = sung_of s h style in play_full m sung_plain (lead_style_of style).dur (dur_in style) (dur_fits style) m.line.stream m.notes.n (omega arith)
 
     pub lead_plain : (i : ℕ) → i < (lead_of s h style beatS).value.n → PlainNote (get_or (lead_of s h style beatS).value.at i past_note)
     lead_plain i k = let laid = lead_laid s h tonal style beatS in filled i k (omega (arith, laid.size, laid.few))

@@ -32,7 +32,7 @@ module _ (m : Sung) (beatS dur : Float) (s : NoiseStream) where
   lane k = play_to m beatS dur (silence_of s) k
 
   -- one note more, over the code's own equations
-  pub lane_more : (notes : List Note) (stream : NoiseStream) (i : ℕ) (x : LeadNote) (p : Draw Note) → lane_with notes stream i ≡ lane i → x ≡ get_or m.notes i past_lead
+  pub lane_more : (notes : List Note) (stream : NoiseStream) (i : ℕ) (x : LeadNote) (p : Draw Note) → lane_with notes stream i ≡ lane i → x ≡ get_or m.notes.at i past_lead
       → p ≡ played_note_of x beatS dur stream → lane_with (set notes i p.value) p.stream (i + 1) ≡ lane (i + 1)
   unfolding play_to play_of
   lane_more notes stream i x p e f h =
@@ -49,7 +49,7 @@ module _ (m : Sung) (beatS dur : Float) (s : NoiseStream) where
   lane_size_lem zero = refl
   lane_size_lem (suc k) = length-set (lane k).value.at (lane k).value.n _ ∙ lane_size_lem k
 
-  lane_keeps : (k : ℕ) → k ≤ 56 → (i : ℕ) → i < k → Keeps (get_or (lane k).value.at i past_note) (get_or m.notes i past_lead)
+  lane_keeps : (k : ℕ) → k ≤ 56 → (i : ℕ) → i < k → Keeps (get_or (lane k).value.at i past_note) (get_or m.notes.at i past_lead)
   unfolding play_to play_of played_note_of
   lane_keeps zero h i b = absurd (not-suc-le-zero b)
   lane_keeps (suc k) h i b =
@@ -65,23 +65,23 @@ module _ (m : Sung) (beatS dur : Float) (s : NoiseStream) where
       get_or-set_other (lane k).value.at (lane k).value.n i _ past_note (λ f. omega (arith, lane_count k)) ∙ lane_rest k i (omega arith) b
 
 module _ (m : Sung) (beatS dur : Float) where
-  pub played_all : (notes : List Note) (stream : NoiseStream) (i : ℕ) → lane_with notes stream i ≡ play_to m beatS dur (silence_of m.line.stream) i → i ≡ m.count
-      → lane_with notes stream m.count ≡ played_of m beatS dur
+  pub played_all : (notes : List Note) (stream : NoiseStream) (i : ℕ) → lane_with notes stream i ≡ play_to m beatS dur (silence_of m.line.stream) i → i ≡ m.notes.n
+      → lane_with notes stream m.notes.n ≡ played_of m beatS dur
   unfolding played_of
   played_all notes stream i e n = ap (lane_with notes stream) (sym n) ∙ e ∙ ap (play_to m beatS dur (silence_of m.line.stream)) n
 
-  pub played_count : (played_of m beatS dur).value.n ≡ m.count
+  pub played_count : (played_of m beatS dur).value.n ≡ m.notes.n
   unfolding played_of
-  played_count = lane_count m beatS dur m.line.stream m.count
+  played_count = lane_count m beatS dur m.line.stream m.notes.n
 
   pub played_size : length (played_of m beatS dur).value.at ≡ 56
   unfolding played_of
-  played_size = lane_size_lem m beatS dur m.line.stream m.count
+  played_size = lane_size_lem m beatS dur m.line.stream m.notes.n
 
-  pub played_keeps : m.count ≤ 56 → (i : ℕ) → i < m.count → Keeps (get_or (played_of m beatS dur).value.at i past_note) (get_or m.notes i past_lead)
+  pub played_keeps : m.notes.n ≤ 56 → (i : ℕ) → i < m.notes.n → Keeps (get_or (played_of m beatS dur).value.at i past_note) (get_or m.notes.at i past_lead)
   unfolding played_of
-  played_keeps h = lane_keeps m beatS dur m.line.stream m.count h
+  played_keeps h = lane_keeps m beatS dur m.line.stream m.notes.n h
 
-  pub played_rest : (i : ℕ) → m.count ≤ i → i < 56 → get_or (played_of m beatS dur).value.at i past_note ≡ no_note
+  pub played_rest : (i : ℕ) → m.notes.n ≤ i → i < 56 → get_or (played_of m beatS dur).value.at i past_note ≡ no_note
   unfolding played_of
-  played_rest = lane_rest m beatS dur m.line.stream m.count
+  played_rest = lane_rest m beatS dur m.line.stream m.notes.n

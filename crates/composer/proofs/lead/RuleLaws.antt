@@ -120,11 +120,11 @@ module _ (start : ℕ) where
   before_new xs n x h = ap (pitch_before start (set xs n x)) (add-one n) ∙ ap (λ (y : LeadNote). y.note) (get_or-set_same xs n x past_lead h)
 
   record Traced (m : Sung) : Type 0 where
-    from : m.line.from ≡ pitch_before start m.notes (m.count - 1)
-    prev : m.line.prev ≡ pitch_before start m.notes m.count
+    from : m.line.from ≡ pitch_before start m.notes.at (m.notes.n - 1)
+    prev : m.line.prev ≡ pitch_before start m.notes.at m.notes.n
 
   traced_put : (xs : List LeadNote) (n : ℕ) (x : LeadNote) (l m : Line) → n < length xs → l.prev ≡ pitch_before start xs n → m.from ≡ l.prev → m.prev ≡ x.note
-      → Traced (record { notes = set xs n x; count = n + 1; line = m })
+      → Traced (record { notes = record { at = set xs n x; n = n + 1 }; line = m })
   traced_put xs n x l m h e f g =
       let back : n + 1 - 1 ≡ n = omega arith in
       record {
@@ -170,32 +170,32 @@ module _ (start : ℕ) where
       abbrev bar : Beats
       bar = get_or beats k past_beats
 
-      sing_traced : (m : Sung) (i : ℕ) → m.count < length m.notes → Traced m → Traced (sing_of pool g k bar m i)
+      sing_traced : (m : Sung) (i : ℕ) → m.notes.n < length m.notes.at → Traced m → Traced (sing_of pool g k bar m i)
       unfolding sing_of step_of carried_of
-      sing_traced m i h t = traced_put m.notes m.count _ m.line _ h t.prev refl refl
+      sing_traced m i h t = traced_put m.notes.at m.notes.n _ m.line _ h t.prev refl refl
 
-      sing_told : (m : Sung) (i : ℕ) → m.count < length m.notes → Traced m → Heads k m.line.heads → ByRule start beats (sing_of pool g k bar m i).notes m.line.stream k i m.count
+      sing_told : (m : Sung) (i : ℕ) → m.notes.n < length m.notes.at → Traced m → Heads k m.line.heads → ByRule start beats (sing_of pool g k bar m i).notes.at m.line.stream k i m.notes.n
       unfolding sing_of step_of
       sing_told m i h t e =
-          rule_put m.notes m.count _ k i m.line.stream h refl
+          rule_put m.notes.at m.notes.n _ k i m.line.stream h refl
           (role_by m.line (place_of k bar i) ∙ rule_heads k i m.line.heads m.line.from m.line.prev (tone_drawn m.line.stream) e ∙ rw (← t.from, ← t.prev))
 
       -- ---- a bar
-      bar_told : (m : Sung) (i : ℕ) → m.count + i ≤ length m.notes → Traced m → ((j : ℕ) → Heads k (bar_to pool g k bar m j).line.heads)
-          → Traced (bar_to pool g k bar m i) × ((j : ℕ) → j < i → ByRule start beats (bar_to pool g k bar m i).notes (bar_to pool g k bar m j).line.stream k j (m.count + j))
+      bar_told : (m : Sung) (i : ℕ) → m.notes.n + i ≤ length m.notes.at → Traced m → ((j : ℕ) → Heads k (bar_to pool g k bar m j).line.heads)
+          → Traced (bar_to pool g k bar m i) × ((j : ℕ) → j < i → ByRule start beats (bar_to pool g k bar m i).notes.at (bar_to pool g k bar m j).line.stream k j (m.notes.n + j))
       unfolding bar_to
       bar_told m zero h t e = (t, λ j l. absurd (not-suc-le-zero l))
       bar_told m (suc i) h t e =
           let n = bar_to pool g k bar m i in
           let before = bar_told m i (omega arith) t e in
-          let count : n.count ≡ m.count + i = bar_count pool g k bar m i in
-          let room : n.count < length n.notes = omega (arith, (bar_grown pool g k bar m i (omega arith)).size) in
+          let count : n.notes.n ≡ m.notes.n + i = bar_count pool g k bar m i in
+          let room : n.notes.n < length n.notes.at = omega (arith, (bar_grown pool g k bar m i (omega arith)).size) in
           let grown = sing_grown pool g k bar n i room in (
             sing_traced n i room before.0,
             λ j l.
                 ⊎_elim
-                (λ (q : j ≡ i). subst (λ (v : ℕ). ByRule start beats (sing_of pool g k bar n i).notes (bar_to pool g k bar m v).line.stream k v (m.count + v)) (sym q) (subst (ByRule start beats (sing_of pool g k bar n i).notes n.line.stream k i) count (sing_told n i room before.0 (e i))))
-                (λ (q : j < i). rule_kept n.notes (sing_of pool g k bar n i).notes (bar_to pool g k bar m j).line.stream k j (m.count + j) (λ v u. grown.kept v (omega arith)) (before.1 j q))
+                (λ (q : j ≡ i). subst (λ (v : ℕ). ByRule start beats (sing_of pool g k bar n i).notes.at (bar_to pool g k bar m v).line.stream k v (m.notes.n + v)) (sym q) (subst (ByRule start beats (sing_of pool g k bar n i).notes.at n.line.stream k i) count (sing_told n i room before.0 (e i))))
+                (λ (q : j < i). rule_kept n.notes.at (sing_of pool g k bar n i).notes.at (bar_to pool g k bar m j).line.stream k j (m.notes.n + j) (λ v u. grown.kept v (omega arith)) (before.1 j q))
                 (eq-or-lt_of_le (le_of_suc-le-suc l)),
           )
 
@@ -229,7 +229,7 @@ module _ (s : NoiseStream) (beats : List Beats) (bars : List Chord) (pool : List
   abbrev ground : ℕ → Ground
   ground k = ground_of style (get_or bars k past_chord) pool
 
-  count_is : (k : ℕ) → (lane_to k).count ≡ notes_before beats k
+  count_is : (k : ℕ) → (lane_to k).notes.n ≡ notes_before beats k
   unfolding bars_to sum_to nothing_sung
   count_is zero = refl
   count_is (suc k) = let b = get_or beats k past_beats in omega (arith, bar_count pool (ground k) k b (lane_to k) b.n, count_is k)
@@ -245,7 +245,7 @@ module _ (s : NoiseStream) (beats : List Beats) (bars : List Chord) (pool : List
   heads_in_lem (suc k) i = heads_later pool (ground (suc k)) (get_or beats (suc k) past_beats) (lane_to (suc k)) k i ∙ heads_at k
 
   abbrev Told : ℕ → Sung → Type 0
-  Told c m = (i : ℕ) → i < (get_or beats c past_beats).n → ByRule first beats m.notes (sung_before s beats bars pool style c i).line.stream c i (notes_before beats c + i)
+  Told c m = (i : ℕ) → i < (get_or beats c past_beats).n → ByRule first beats m.notes.at (sung_before s beats bars pool style c i).line.stream c i (notes_before beats c + i)
 
   lanes_told : (k : ℕ) → k ≤ 8 → Traced first (lane_to k) × ((c : ℕ) → c < k → Told c (lane_to k))
   unfolding bars_to
@@ -254,26 +254,26 @@ module _ (s : NoiseStream) (beats : List Beats) (bars : List Chord) (pool : List
       let b = get_or beats k past_beats in
       let before = lanes_told k (omega arith) in
       let good = good_to s beats bars pool style ready k (omega arith) in
-      let room : (lane_to k).count + b.n ≤ length (lane_to k).notes = omega (arith, good.0.size, good.1, ready.few k h) in
+      let room : (lane_to k).notes.n + b.n ≤ length (lane_to k).notes.at = omega (arith, good.0.size, good.1, ready.few k h) in
       let told = bar_told first beats pool (ground k) k (lane_to k) b.n room before.0 (heads_in_lem k) in
       let grown = bar_grown pool (ground k) k b (lane_to k) b.n room in (
         told.0,
         λ c l.
             ⊎_elim
-            (λ (e : c ≡ k). subst (λ (v : ℕ). Told v (lane_to (suc k))) (sym e) (λ i u. subst (λ (v : ℕ). ByRule first beats (lane_to (suc k)).notes (sung_before s beats bars pool style k i).line.stream k i (v + i)) (count_is k) (told.1 i u)))
+            (λ (e : c ≡ k). subst (λ (v : ℕ). Told v (lane_to (suc k))) (sym e) (λ i u. subst (λ (v : ℕ). ByRule first beats (lane_to (suc k)).notes.at (sung_before s beats bars pool style k i).line.stream k i (v + i)) (count_is k) (told.1 i u)))
             (λ (e : c < k).
             λ i u.
-            rule_kept first beats (lane_to k).notes (lane_to (suc k)).notes (sung_before s beats bars pool style c i).line.stream c i (notes_before beats c + i) (λ j q. grown.kept j (omega (arith, count_is k, sum_within (notes_of_bar beats) c i k e u))) (before.1 c e i u))
+            rule_kept first beats (lane_to k).notes.at (lane_to (suc k)).notes.at (sung_before s beats bars pool style c i).line.stream c i (notes_before beats c + i) (λ j q. grown.kept j (omega (arith, count_is k, sum_within (notes_of_bar beats) c i k e u))) (before.1 c e i u))
             (eq-or-lt_of_le (le_of_suc-le-suc l)),
       )
 
   -- the melody has as many notes as its rhythm
-  melody_count : (melody_of s beats bars pool style).count ≡ notes_before beats 8
+  melody_count : (melody_of s beats bars pool style).notes.n ≡ notes_before beats 8
   unfolding melody_of
   melody_count = count_is 8
 
   -- each has its role by the rule
-  melody_told : (k i : ℕ) → k < 8 → i < (get_or beats k past_beats).n → ByRule first beats (melody_of s beats bars pool style).notes (sung_before s beats bars pool style k i).line.stream k i (notes_before beats k + i)
+  melody_told : (k i : ℕ) → k < 8 → i < (get_or beats k past_beats).n → ByRule first beats (melody_of s beats bars pool style).notes.at (sung_before s beats bars pool style k i).line.stream k i (notes_before beats k + i)
   unfolding melody_of
   melody_told k i h = (lanes_told 8 (omega arith)).1 k h i
 
@@ -290,12 +290,12 @@ module _ (s : NoiseStream) (h : Harmony) (tonal : Tonal h) (style : Style) (beat
       played_count (sung_of s h style) beatS l.dur ∙ melody_count (rhythm_of s l).stream beats h.bars (pool_of h.scale) l (song_ready s h tonal style)
 
   sung_told : (k i : ℕ) → k < 8 → i < (get_or beats k past_beats).n
-      → ByRule (song_start h style) beats (sung_of s h style).notes (song_stream s h style k i) k i (notes_before beats k + i)
+      → ByRule (song_start h style) beats (sung_of s h style).notes.at (song_stream s h style k i) k i (notes_before beats k + i)
   unfolding sung_of
   sung_told = let l = lead_style_of style in melody_told (rhythm_of s l).stream beats h.bars (pool_of h.scale) l (song_ready s h tonal style)
 
   -- the pitches of the lane are those of the melody
-  midi_same : (n : ℕ) → n ≤ (lead_of s h style beatS).value.n → midi_before (song_start h style) (lead_of s h style beatS).value.at n ≡ pitch_before (song_start h style) (sung_of s h style).notes n
+  midi_same : (n : ℕ) → n ≤ (lead_of s h style beatS).value.n → midi_before (song_start h style) (lead_of s h style beatS).value.at n ≡ pitch_before (song_start h style) (sung_of s h style).notes.at n
   unfolding midi_before pitch_before
   midi_same zero a = refl
   midi_same (suc n) a = (keeps s h tonal style beatS n a).1
@@ -317,7 +317,7 @@ module _ (s : NoiseStream) (h : Harmony) (tonal : Tonal h) (style : Style) (beat
         of_bar = kept.0 ∙ rule.bar;
         role =
             kept.2 ∙ ap noted_of rule.role
-            ∙ rw (midi_same (n - 1) (omega arith), midi_same n (omega arith)) (ap noted_of (rule_said k bar i (heads_in beats) (pitch_before (song_start h style) (sung_of s h style).notes (n - 1)) (pitch_before (song_start h style) (sung_of s h style).notes n) (tone_drawn (song_stream s h style k i))));
+            ∙ rw (midi_same (n - 1) (omega arith), midi_same n (omega arith)) (ap noted_of (rule_said k bar i (heads_in beats) (pitch_before (song_start h style) (sung_of s h style).notes.at (n - 1)) (pitch_before (song_start h style) (sung_of s h style).notes.at n) (tone_drawn (song_stream s h style k i))));
       }
 
   -- and every note of the lane is such a note

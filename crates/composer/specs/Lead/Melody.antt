@@ -1,9 +1,10 @@
 -- The melody: each note of the rhythm gets a pitch and a velocity. Definitions only.
-use Rattle.std.specs.Prelude.{Bool, cond, List, [], ◌∷◌, ℕ, zero, suc, ◌+◌, ◌-◌, ◌/◌, max, eqb, get_or, set, replicate, Float}
+use Rattle.std.specs.Prelude.{Bool, cond, List, [], ◌∷◌, ℕ, zero, suc, ◌+◌, ◌-◌, ◌/◌, max, eqb, get_or, replicate, Float}
 use Rattle.std.specs.Float.{nan, binary32}
 use Rattle.std.specs.Float.Ieee.{of_bits, add}
 use Rattle.streams.specs.declared.stream.NoiseStream.{NoiseStream}
 use Rattle.composer.specs.Chord.{past_chord}
+use Rattle.composer.specs.Few.{one_more}
 use Rattle.composer.specs.Note.{zero32}
 use Rattle.composer.specs.Spread.{draw_of}
 use Rattle.composer.specs.Lead.Beats.{Beats, past_beats}
@@ -51,15 +52,14 @@ abbrev pub opening_of : ℕ → ℕ → ℕ → ℕ
 opening_of count start sung = cond (eqb count 0) start sung
 
 abbrev pub first_sung_of : Sung → ℕ
-first_sung_of m = opening_of m.count m.line.prev (get_or m.notes 0 past_lead).note
+first_sung_of m = opening_of m.notes.n m.line.prev (get_or m.notes.at 0 past_lead).note
 
 -- one note more
 unfoldable pub sing_of : List Bool → Ground → ℕ → Beats → Sung → ℕ → Sung
 sing_of pool g bar b m i =
     let t = step_of pool g m.line (place_of bar b i) (first_sung_of m) in
     record {
-      notes = set m.notes m.count (record { bar = bar; beat = get_or b.at i nan; note = t.note; role = t.role; vel = t.vel });
-      count = m.count + 1;
+      notes = one_more m.notes (record { bar = bar; beat = get_or b.at i nan; note = t.note; role = t.role; vel = t.vel });
       line = t.line;
     }
 
@@ -81,7 +81,7 @@ open_line_of first s = record { stream = s; from = first; prev = first; head = 0
 
 -- nothing sung yet
 unfoldable pub nothing_sung : ℕ → NoiseStream → Sung
-nothing_sung first s = record { notes = replicate 56 no_lead; count = 0; line = open_line_of first s }
+nothing_sung first s = record { notes = record { at = replicate 56 no_lead; n = 0 }; line = open_line_of first s }
 
 -- the first k bars, each over its chord
 unfoldable pub bars_to : List Beats → List Chord → List Bool → LeadStyle → Sung → ℕ → Sung

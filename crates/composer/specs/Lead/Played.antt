@@ -41,7 +41,7 @@ LeadLane = Draw (Few Note 56)
 -- one note more
 unfoldable pub play_of : Sung → Float → Float → LeadLane → ℕ → LeadLane
 play_of m beatS dur l i =
-    let p = played_note_of (get_or m.notes i past_lead) beatS dur l.stream in
+    let p = played_note_of (get_or m.notes.at i past_lead) beatS dur l.stream in
     record { value = one_more l.value p.value; stream = p.stream }
 
 -- the first i notes
@@ -53,4 +53,4 @@ abbrev pub silence_of : NoiseStream → LeadLane
 silence_of s = record { value = record { at = replicate 56 no_note; n = 0 }; stream = s }
 
 unfoldable pub played_of : Sung → Float → Float → LeadLane
-played_of m beatS dur = play_to m beatS dur (silence_of m.line.stream) m.count
+played_of m beatS dur = play_to m beatS dur (silence_of m.line.stream) m.notes.n

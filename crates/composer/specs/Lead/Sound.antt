@@ -52,9 +52,9 @@ Quotable Passing i heads = T true
 
 -- the notes sung so far
 pub record Good (pool : List Bool) (lo hi : ℕ) (m : Sung) : Type 0 where
-  pub size : length m.notes ≡ 56
+  pub size : length m.notes.at ≡ 56
   pub line : Fit pool lo hi m.line (first_sung_of m)
-  pub notes : (i : ℕ) → i < m.count → T (fits_of pool lo hi (get_or m.notes i past_lead).note)
+  pub notes : (i : ℕ) → i < m.notes.n → T (fits_of pool lo hi (get_or m.notes.at i past_lead).note)
 
 -- all that a melody is sung over
 pub record Ready (beats : List Beats) (bars : List Chord) (pool : List Bool) (style : LeadStyle) : Type 0 where

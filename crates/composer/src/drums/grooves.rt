@@ -22,7 +22,8 @@ pub struct Hats {
     pub velocity: Spread,
 }
 
-// `snares` are the beats that the snare lands on. The kicks land `drag_s` seconds behind the grid. A ghost kick and an open hat may end each statement and answer.
+// `snares` are the beats that the snare lands on. The kicks land `drag_s` seconds behind the grid. A ghost kick and an
+// open hat may end each statement and answer.
 #[derive(Clone, Copy)]
 pub struct Groove {
     pub first: Kick,

@@ -5,6 +5,7 @@ ghost use Rattle.composer.specs.Lead.Melody.{velocity_of, step_of, opening_of, s
 ghost use Rattle.composer.specs.Lead.Sound.{Sound, Fit, Ready};
 
 use crate::chord::{Chord, OCTAVE};
+use crate::few::Few;
 use crate::lead::beats::Beats;
 use crate::lead::ground::{Ground, ground_of};
 use crate::lead::line::{Line, Place, carried, place_of};
@@ -39,11 +40,10 @@ pub struct LeadStep {
     pub line: Line,
 }
 
-// The first `count` notes are sung.
+// The notes sung, and the line behind the last.
 #[derive(Clone, Copy)]
 pub struct Sung {
-    pub notes: [LeadNote; 56],
-    pub count: usize,
+    pub notes: Few<LeadNote, 56>,
     pub line: Line,
 }
 
@@ -157,5 +157,11 @@ pub(crate) fn melody(
             line = t.line;
         }
     }
-    Sung { notes, count, line }
+    Sung {
+        notes: Few {
+            at: notes,
+            n: count,
+        },
+        line,
+    }
 }

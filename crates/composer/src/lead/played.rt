@@ -47,12 +47,12 @@ fn play(x: LeadNote, beat_s: f32, dur: f32, s: NoiseStream) -> Draw<Note>
 
 // All notes of the melody.
 pub(crate) fn played(m: Sung, beat_s: f32, dur: f32) -> LeadLane
-    requires { m.count ≤ 56 }
+    requires { m.notes.n ≤ 56 }
     ensures { result ≡ played_of m beat_s dur }
 {
     let mut notes = [NO_NOTE; 56];
     let mut stream = m.line.stream;
-    for (i, &x) in m.notes[..m.count].iter().enumerate() {
+    for (i, &x) in m.notes.used().iter().enumerate() {
         let p = play(x, beat_s, dur, stream);
         notes[i] = p.value;
         stream = p.stream;
@@ -60,7 +60,7 @@ pub(crate) fn played(m: Sung, beat_s: f32, dur: f32) -> LeadLane
     Draw {
         value: Few {
             at: notes,
-            n: m.count,
+            n: m.notes.n,
         },
         stream,
     }

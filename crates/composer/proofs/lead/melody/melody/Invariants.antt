@@ -9,7 +9,7 @@ use Rattle.composer.specs.declared.lead.melody.Sung.{Sung}
 use Rattle.composer.proofs.lead.melody.melody.Given as goal
 
 abbrev pub sung_with : List LeadNote → ℕ → Line → Sung
-sung_with notes count line = record { notes = notes; count = count; line = line }
+sung_with notes count line = record { notes = record { at = notes; n = count }; line = line }
 
 abbrev pub invariant-loop-i : goal.invariant-loop-i
 invariant-loop-i l =
