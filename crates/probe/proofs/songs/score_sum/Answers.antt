@@ -13,13 +13,13 @@ front P xs n d few p =
     All-from_get_or P (take n xs) d (λ i h. let l : i < n = omega arith in subst P (sym (get_or-take n xs i d l)) (p i l))
 
 pub notes_sum-requires-clause-plain : goal.notes_sum-requires-clause-plain
-notes_sum-requires-clause-plain c = let s = c.args.s.now in rw c.used.ensures (front PlainNote s.lead.at s.lead.n past_note (omega arith) c.requires.plain.lead)
+notes_sum-requires-clause-plain c = let s = c.args.s.now in rw c.used.ensures.value (front PlainNote s.lead.at s.lead.n past_note (omega arith) c.requires.plain.lead)
 
 pub notes_sum-requires-2-clause-plain : goal.notes_sum-requires-2-clause-plain
-notes_sum-requires-2-clause-plain c = let s = c.args.s.now in rw c.used-2.ensures (front PlainNote s.keys.at s.keys.n past_note (omega arith) c.requires.plain.keys)
+notes_sum-requires-2-clause-plain c = let s = c.args.s.now in rw c.used-2.ensures.value (front PlainNote s.keys.at s.keys.n past_note (omega arith) c.requires.plain.keys)
 
 pub hits_sum-low-requires-clause-plain : goal.hits_sum-low-requires-clause-plain
-hits_sum-low-requires-clause-plain c = let s = c.args.s.now in rw c.used-3.ensures (front PlainHit s.hits.at s.hits.n past_hit (omega arith) c.requires.plain.hits)
+hits_sum-low-requires-clause-plain c = let s = c.args.s.now in rw c.used-3.ensures.value (front PlainHit s.hits.at s.hits.n past_hit (omega arith) c.requires.plain.hits)
 
 pub notes_sum-requires-3-clause-plain : goal.notes_sum-requires-3-clause-plain
-notes_sum-requires-3-clause-plain c = let s = c.args.s.now in rw c.used-4.ensures (front PlainNote s.bass.at s.bass.n past_note (omega arith) c.requires.plain.bass)
+notes_sum-requires-3-clause-plain c = let s = c.args.s.now in rw c.used-4.ensures.value (front PlainNote s.bass.at s.bass.n past_note (omega arith) c.requires.plain.bass)
