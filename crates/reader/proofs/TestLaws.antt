@@ -16,6 +16,13 @@ use Rattle.laws.proofs.Lists.{length_pad, pad_at_lem, get_d_any}
 use Rattle.laws.proofs.Written.{rest_is}
 use Rattle.reader.specs.Tests.{all_to}
 
+-- where the first of two is known
+pub and_then : {a t : Bool} (b : Bool) → a ≡ true → t ≡ b → t ≡ (a && b)
+and_then b p q = rw p q
+
+pub and_else : {a t : Bool} (b : Bool) → a ≡ false → t ≡ false → t ≡ (a && b)
+and_else b p q = rw p q
+
 pub all_to_at : (p : ℕ → Bool) (n : ℕ) → all_to p n ≡ true → (i : ℕ) → i < n → p i ≡ true
 unfolding all_to
 all_to_at p zero e i h = absurd (not-suc-le-zero h)
