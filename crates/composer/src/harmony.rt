@@ -14,6 +14,7 @@ pub struct Scale {
     pub n: usize,
 }
 
+// That it is tonal is no ghost field, since the definitions make harmonies of any numbers.
 #[derive(Clone, Copy)]
 pub struct Harmony {
     pub scale: Scale,

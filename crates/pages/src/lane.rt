@@ -93,7 +93,8 @@ fn put_events(buf: &mut [u8], at: usize, edition: Edition, s: &Score, lane: Lane
     }
 }
 
-// A run of a lane's events as the lane's field.
+// A run of a lane's events as the lane's field. A struct of score, lane and run would be made at four places for two
+// methods.
 pub(crate) fn put_run(
     buf: &mut [u8],
     at: usize,

@@ -26,7 +26,7 @@ fn lane_size(edition: Edition, s: &Score, lane: Lane) -> usize
     lane.width(edition) * lane.count(s)
 }
 
-// Its length.
+// Its length. This one and the two below are public and ask what they always asked; `Contents` has it as its fields.
 pub fn sheet_size(edition: Edition, s: &Score, scale: Scale, f: Form) -> usize
     requires sized_lanes { SizedLanes s.now }
     requires capacities { (scale.n ≤ 6) × (f.bars ≤ 64) }

@@ -1,5 +1,6 @@
 // Notes and hits at a place in bytes: whether they are in range, and the lanes that they fill. All are tested before
-// one is read, so that no number that is read is a NaN.
+// one is read, so that no number that is read is a NaN. Bytes and a place, and no slice of them: the definitions read a
+// sheet at a place.
 ghost use Rattle.std.specs.Prelude.{true, false, ◌≡◌, ◌+◌, ◌*◌, ◌<◌, ◌≤◌, length};
 ghost use Rattle.laws.specs.Lists.{pad};
 ghost use Rattle.composer.specs.Note.{no_note, no_hit};

@@ -36,7 +36,8 @@ const PICKUP_VELOCITY: Spread = Spread {
 // How much of the time to its next note a note is held.
 const BASS_GATE: f32 = 0.9;
 
-// What a bar is played from: its number, its root's class and the next bar's, its steps and the next bar's first.
+// What a bar is played from: its number, its root's class and the next bar's, its steps and the next bar's first. That
+// it is `Playable` is no ghost field, since the definitions make such parts too.
 #[derive(Clone, Copy)]
 pub struct BarPart {
     pub bar: u8,
