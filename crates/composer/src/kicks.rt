@@ -1,5 +1,5 @@
 // A score's kicks, and a score without its drums.
-ghost use Rattle.std.specs.Prelude.{◌≡◌, ◌+◌, ◌<◌, ◌≤◌, take};
+ghost use Rattle.std.specs.Prelude.{◌≡◌, ◌+◌, ◌<◌, ◌≤◌, length};
 ghost use Rattle.composer.specs.Kicks.{kick_times, times_of, kicks_of, unbeaten_of};
 
 use crate::few::Few;
@@ -11,15 +11,15 @@ use crate::sort::sort_front;
 // The first n entries, in order; the others are 0.
 pub type KickTimes = Few<f32, 98>;
 
-// The times of the kicks among the first n hits, in the hits' order.
-fn heard(hits: [Hit; 98], n: usize) -> KickTimes
-    requires { n ≤ 98 }
-    ensures value { result ≡ kick_times (times_of (take n hits)) }
+// The times of the kicks among the hits, in their order.
+fn heard(hits: &[Hit]) -> KickTimes
+    requires { length hits.now ≤ 98 }
+    ensures value { result ≡ kick_times (times_of hits.now) }
     ensures n_bound { result.n ≤ 98 }
 {
     let mut at = [0.0f32; 98];
     let mut count: usize = 0;
-    for hit in &hits[..n] {
+    for hit in hits {
         if hit.kind == DrumKind::Kick {
             at[count] = hit.at;
             count += 1;
@@ -33,11 +33,10 @@ fn heard(hits: [Hit; 98], n: usize) -> KickTimes
 pub fn kicks(score: Score) -> Result<KickTimes, Refusal>
     ensures { result ≡ kicks_of score }
 {
-    let n = score.hits.n;
-    if n > 98 {
+    if score.hits.n > 98 {
         return Err(Refusal::Malformed);
     }
-    let t = heard(score.hits.at, n);
+    let t = heard(score.hits.used());
     let mut at = t.at;
     sort_front(&mut at, t.n);
     Ok(KickTimes { at, n: t.n })

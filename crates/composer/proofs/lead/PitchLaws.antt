@@ -8,13 +8,14 @@ use native.Mathlib.Nat.{eq-or-lt_of_le}
 use native.Mathlib.Omega.{arith}
 use borrow.Author.Tests.{ltb-true}
 use lib.Dec.{T, ltb, eqb}
-use lib.ListN.{get_or, length, set, length-set}
+use lib.ListN.{get_or, length, length-set}
 use lib.Seq.{get_or-set_same, get_or-set_other}
 use Rattle.laws.proofs.Bools.{both, cond_by}
 use Rattle.streams.specs.Draw.{pick_of, chance_of}
 use Rattle.streams.specs.declared.stream.NoiseStream.{NoiseStream}
 use Rattle.streams.specs.declared.stream.Draw.{Draw}
 use Rattle.streams.proofs.DrawLaws.{pick_lt}
+use Rattle.composer.specs.Few.{one_more}
 use Rattle.composer.specs.Lead.Scale.{fits_of, room_of, walk_of, scale_step_of}
 use Rattle.composer.specs.Lead.Tones.{Tones, listed, distance_of, near_of}
 use Rattle.composer.specs.Lead.Line.{opens_line_of, carried_of}
@@ -36,18 +37,18 @@ pub picked_below : (s : NoiseStream) (n : ℕ) {r : Draw ℕ} → r ≡ pick_of 
 picked_below s n e h = rw e (pick_lt s n h)
 
 -- ---- the role: where it is a quote, there is a note to quote
-pub role_quotes : (l : Line) (p : Place) → Quotable (role_of l p).value p.i l.heads
+pub role_quotes : (l : Line) (p : Place) → Quotable (role_of l p).value p.i l.head.n
 unfolding role_of chance_role_of
 role_quotes l p =
-    by_cases (quotes_of p l.heads) p.last (peaks_of p) (leapt_of l.from l.prev) p.strong
-    (λ h. ltb-true p.i l.heads (both (eqb p.bar 4) (ltb p.i l.heads) (both (eqb p.bar 4 && ltb p.i l.heads) (not p.last) h).0).1)
+    by_cases (quotes_of p l.head.n) p.last (peaks_of p) (leapt_of l.from l.prev) p.strong
+    (λ h. ltb-true p.i l.head.n (both (eqb p.bar 4) (ltb p.i l.head.n) (both (eqb p.bar 4 && ltb p.i l.head.n) (not p.last) h).0).1)
   where
-    by_chance : (h : Bool) (t : NoiseStream) → Quotable (cond h (chosen_of ChordTone t) (chosen_of Passing t)).value p.i l.heads
+    by_chance : (h : Bool) (t : NoiseStream) → Quotable (cond h (chosen_of ChordTone t) (chosen_of Passing t)).value p.i l.head.n
     by_chance true t = tt
     by_chance false t = tt
 
-    by_cases : (a b c d e : Bool) → (a ≡ true → p.i < l.heads)
-        → Quotable (cond a (chosen_of Quote l.stream) (cond b (chosen_of Close l.stream) (cond c (chosen_of Peak l.stream) (cond d (chosen_of Resolve l.stream) (cond e (chosen_of ChordTone l.stream) (chance_role_of l.stream)))))).value p.i l.heads
+    by_cases : (a b c d e : Bool) → (a ≡ true → p.i < l.head.n)
+        → Quotable (cond a (chosen_of Quote l.stream) (cond b (chosen_of Close l.stream) (cond c (chosen_of Peak l.stream) (cond d (chosen_of Resolve l.stream) (cond e (chosen_of ChordTone l.stream) (chance_role_of l.stream)))))).value p.i l.head.n
     by_cases true b c d e h = h refl
     by_cases false true c d e h = tt
     by_cases false false true d e h = tt
@@ -70,7 +71,7 @@ module _ (pool : List Bool) (g : Ground) (sound : Sound pool g) where
   tones_for_tuned true = sound.strong
   tones_for_tuned false = sound.tones
 
-  pub pitch_fits : (r : Role) (s : NoiseStream) (l : Line) (p : Place) (first : ℕ) → Fit pool g.lo g.hi l first → Quotable r p.i l.heads
+  pub pitch_fits : (r : Role) (s : NoiseStream) (l : Line) (p : Place) (first : ℕ) → Fit pool g.lo g.hi l first → Quotable r p.i l.head.n
       → T (fits_of pool g.lo g.hi (pitch_of r s pool g l p first).value)
   unfolding pitch_of peak_note_of chord_note_of passing_note_of
   pitch_fits Quote s l p first f q = f.head p.i q
@@ -93,22 +94,22 @@ opens_room : (bar heads : ℕ) → opens_line_of bar heads ≡ true → heads < 
 opens_room bar heads h = ltb-true heads 2 (both (eqb bar 0) (ltb heads 2) h).1
 
 module _ (pool : List Bool) (lo hi : ℕ) (l : Line) (opening note : ℕ) (f : Fit pool lo hi l opening) (fits : T (fits_of pool lo hi note)) where
-  head_on : (o : Bool) → (o ≡ true → l.heads < 2) → (i : ℕ) → i < cond o (l.heads + 1) l.heads → T (fits_of pool lo hi (get_or (cond o (set l.head l.heads note) l.head) i 0))
+  head_on : (o : Bool) → (o ≡ true → l.head.n < 2) → (i : ℕ) → i < (cond o (one_more l.head note) l.head).n → T (fits_of pool lo hi (get_or (cond o (one_more l.head note) l.head).at i 0))
   head_on false h i k = f.head i k
   head_on true h i k =
       ⊎_elim
-      (λ (e : i ≡ l.heads). rw (e, get_or-set_same l.head l.heads note 0 (omega (arith, f.size, h refl))) fits)
-      (λ (e : i < l.heads). rw (get_or-set_other l.head l.heads i note 0 (λ q. omega arith)) (f.head i e))
+      (λ (e : i ≡ l.head.n). rw (e, get_or-set_same l.head.at l.head.n note 0 (omega (arith, f.size, h refl))) fits)
+      (λ (e : i < l.head.n). rw (get_or-set_other l.head.at l.head.n i note 0 (λ q. omega arith)) (f.head i e))
       (eq-or-lt_of_le (le_of_lt_suc k))
     where
       le_of_lt_suc : {a b : ℕ} → a < b + 1 → a ≤ b
       le_of_lt_suc k = omega arith
 
-  size_on : (o : Bool) → length (cond o (set l.head l.heads note) l.head) ≡ 2
-  size_on true = length-set l.head l.heads note ∙ f.size
+  size_on : (o : Bool) → length (cond o (one_more l.head note) l.head).at ≡ 2
+  size_on true = length-set l.head.at l.head.n note ∙ f.size
   size_on false = f.size
 
-  heads_on : (o : Bool) → (o ≡ true → l.heads < 2) → cond o (l.heads + 1) l.heads ≤ 2
+  heads_on : (o : Bool) → (o ≡ true → l.head.n < 2) → (cond o (one_more l.head note) l.head).n ≤ 2
   heads_on true h = omega (arith, h refl)
   heads_on false h = f.heads
 
@@ -116,6 +117,6 @@ module _ (pool : List Bool) (lo hi : ℕ) (l : Line) (opening note : ℕ) (f : F
   unfolding carried_of
   line_fits bar s next t =
       let w = fits_what pool lo hi note fits in
-      let o = opens_line_of bar l.heads in
-      let h = opens_room bar l.heads in
+      let o = opens_line_of bar l.head.n in
+      let h = opens_room bar l.head.n in
       record { low = w.0; high = w.1; size = size_on o; heads = heads_on o h; prev = fits; head = head_on o h; first = t }

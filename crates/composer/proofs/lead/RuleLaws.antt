@@ -17,6 +17,7 @@ use Rattle.laws.proofs.Sums.{sum_within, sum_part}
 use Rattle.streams.specs.Draw.{chance_of}
 use Rattle.streams.specs.declared.stream.NoiseStream.{NoiseStream}
 use Rattle.composer.specs.Chord.{past_chord}
+use Rattle.composer.specs.Few.{one_more}
 use Rattle.composer.specs.Harmony.{Tonal}
 use Rattle.composer.specs.Lead.{sung_of, lead_of}
 use Rattle.composer.specs.Lead.Beats.{Beats, past_beats}
@@ -31,6 +32,7 @@ use Rattle.composer.specs.Lead.Tones.{distance_of}
 use Rattle.composer.specs.Lead.Sound.{Ready}
 use Rattle.composer.specs.Style.{lead_style_of}
 use Rattle.composer.specs.declared.chord.Chord.{Chord}
+use Rattle.composer.specs.declared.few.Few.{Few}
 use Rattle.composer.specs.declared.harmony.Harmony.{Harmony}
 use Rattle.composer.specs.declared.style.Style.{Style}
 use Rattle.composer.specs.declared.style.LeadStyle.{LeadStyle}
@@ -90,9 +92,9 @@ rule_said bar b i heads from prev tone = go (eqb bar 4) (is_strong_of (get_or b.
     go false strong t e = rest strong t
 
 -- ---- the role by the line
-role_by : (l : Line) (p : Place) → (role_of l p).value ≡ rule_by p l.heads l.from l.prev (tone_drawn l.stream)
+role_by : (l : Line) (p : Place) → (role_of l p).value ≡ rule_by p l.head.n l.from l.prev (tone_drawn l.stream)
 unfolding role_of chance_role_of rule_by
-role_by l p = by_cases (quotes_of p l.heads) p.last (peaks_of p) (leapt_of l.from l.prev) p.strong (tone_drawn l.stream) l.stream (chance_of l.stream tone_chance).stream
+role_by l p = by_cases (quotes_of p l.head.n) p.last (peaks_of p) (leapt_of l.from l.prev) p.strong (tone_drawn l.stream) l.stream (chance_of l.stream tone_chance).stream
   where
     by_cases : (a b c d e f : Bool) (s t : NoiseStream)
         → ◌≡◌ {A = Role} (cond a (chosen_of Quote s) (cond b (chosen_of Close s) (cond c (chosen_of Peak s) (cond d (chosen_of Resolve s) (cond e (chosen_of ChordTone s) (cond f (chosen_of ChordTone t) (chosen_of Passing t))))))).value
@@ -174,14 +176,14 @@ module _ (start : ℕ) where
       unfolding sing_of step_of carried_of
       sing_traced m i h t = traced_put m.notes.at m.notes.n _ m.line _ h t.prev refl refl
 
-      sing_told : (m : Sung) (i : ℕ) → m.notes.n < length m.notes.at → Traced m → Heads k m.line.heads → ByRule start beats (sing_of pool g k bar m i).notes.at m.line.stream k i m.notes.n
+      sing_told : (m : Sung) (i : ℕ) → m.notes.n < length m.notes.at → Traced m → Heads k m.line.head.n → ByRule start beats (sing_of pool g k bar m i).notes.at m.line.stream k i m.notes.n
       unfolding sing_of step_of
       sing_told m i h t e =
           rule_put m.notes.at m.notes.n _ k i m.line.stream h refl
-          (role_by m.line (place_of k bar i) ∙ rule_heads k i m.line.heads m.line.from m.line.prev (tone_drawn m.line.stream) e ∙ rw (← t.from, ← t.prev))
+          (role_by m.line (place_of k bar i) ∙ rule_heads k i m.line.head.n m.line.from m.line.prev (tone_drawn m.line.stream) e ∙ rw (← t.from, ← t.prev))
 
       -- ---- a bar
-      bar_told : (m : Sung) (i : ℕ) → m.notes.n + i ≤ length m.notes.at → Traced m → ((j : ℕ) → Heads k (bar_to pool g k bar m j).line.heads)
+      bar_told : (m : Sung) (i : ℕ) → m.notes.n + i ≤ length m.notes.at → Traced m → ((j : ℕ) → Heads k (bar_to pool g k bar m j).line.head.n)
           → Traced (bar_to pool g k bar m i) × ((j : ℕ) → j < i → ByRule start beats (bar_to pool g k bar m i).notes.at (bar_to pool g k bar m j).line.stream k j (m.notes.n + j))
       unfolding bar_to
       bar_told m zero h t e = (t, λ j l. absurd (not-suc-le-zero l))
@@ -200,20 +202,20 @@ module _ (start : ℕ) where
           )
 
 -- ---- how much of the head is sung
-heads_more : (h i : ℕ) → h ≡ min 2 i → cond (ltb h 2) (h + 1) h ≡ min 2 (suc i)
-heads_more h i e = go (ltb h 2) refl
+heads_more : (h : Few ℕ 2) (note i : ℕ) → h.n ≡ min 2 i → (cond (ltb h.n 2) (one_more h note) h).n ≡ min 2 (suc i)
+heads_more h note i e = go (ltb h.n 2) refl
   where
-    go : (b : Bool) → ltb h 2 ≡ b → cond b (h + 1) h ≡ min 2 (suc i)
-    go true t = omega (arith, e, ltb-true h 2 t)
-    go false t = omega (arith, e, ltb-false h 2 t)
+    go : (b : Bool) → ltb h.n 2 ≡ b → (cond b (one_more h note) h).n ≡ min 2 (suc i)
+    go true t = omega (arith, e, ltb-true h.n 2 t)
+    go false t = omega (arith, e, ltb-false h.n 2 t)
 
 module _ (pool : List Bool) (g : Ground) (b : Beats) (m : Sung) where
-  heads_first : m.line.heads ≡ 0 → (i : ℕ) → (bar_to pool g 0 b m i).line.heads ≡ min 2 i
+  heads_first : m.line.head.n ≡ 0 → (i : ℕ) → (bar_to pool g 0 b m i).line.head.n ≡ min 2 i
   unfolding bar_to sing_of step_of carried_of
   heads_first e zero = omega (arith, e)
-  heads_first e (suc i) = heads_more (bar_to pool g 0 b m i).line.heads i (heads_first e i)
+  heads_first e (suc i) = heads_more (bar_to pool g 0 b m i).line.head _ i (heads_first e i)
 
-  heads_later : (k i : ℕ) → (bar_to pool g (suc k) b m i).line.heads ≡ m.line.heads
+  heads_later : (k i : ℕ) → (bar_to pool g (suc k) b m i).line.head.n ≡ m.line.head.n
   unfolding bar_to sing_of step_of carried_of
   heads_later k zero = refl
   heads_later k (suc i) = rw eqb-suc-zero (heads_later k i)
@@ -234,12 +236,12 @@ module _ (s : NoiseStream) (beats : List Beats) (bars : List Chord) (pool : List
   count_is zero = refl
   count_is (suc k) = let b = get_or beats k past_beats in omega (arith, bar_count pool (ground k) k b (lane_to k) b.n, count_is k)
 
-  heads_at : (k : ℕ) → (lane_to (suc k)).line.heads ≡ heads_in beats
+  heads_at : (k : ℕ) → (lane_to (suc k)).line.head.n ≡ heads_in beats
   unfolding bars_to nothing_sung
   heads_at zero = let b = get_or beats 0 past_beats in heads_first pool (ground 0) b (nothing_sung first s) refl b.n
   heads_at (suc k) = let b = get_or beats (suc k) past_beats in heads_later pool (ground (suc k)) b (lane_to (suc k)) k b.n ∙ heads_at k
 
-  heads_in_lem : (k i : ℕ) → Heads first beats k (bar_to pool (ground k) k (get_or beats k past_beats) (lane_to k) i).line.heads
+  heads_in_lem : (k i : ℕ) → Heads first beats k (bar_to pool (ground k) k (get_or beats k past_beats) (lane_to k) i).line.head.n
   unfolding bars_to nothing_sung
   heads_in_lem zero i = omega (arith, heads_first pool (ground 0) (get_or beats 0 past_beats) (nothing_sung first s) refl i)
   heads_in_lem (suc k) i = heads_later pool (ground (suc k)) (get_or beats (suc k) past_beats) (lane_to (suc k)) k i ∙ heads_at k

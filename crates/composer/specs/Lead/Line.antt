@@ -1,10 +1,12 @@
 -- A note's place in the melody, and what the line carries from note to note. Definitions only.
-use Rattle.std.specs.Prelude.{Bool, cond, ◌&&◌, ◌||◌, List, ℕ, ◌+◌, ltb, eqb, get_or, set, Float}
+use Rattle.std.specs.Prelude.{Bool, cond, ◌&&◌, ◌||◌, ℕ, ◌+◌, ltb, eqb, get_or, Float}
 use Rattle.std.specs.Float.{nan, binary32}
 use Rattle.std.specs.Float.Ieee.{of_bits, eq}
 use Rattle.laws.specs.Floats.{fract_of}
 use Rattle.streams.specs.declared.stream.NoiseStream.{NoiseStream}
+use Rattle.composer.specs.Few.{one_more}
 use Rattle.composer.specs.Lead.Beats.{Beats}
+use Rattle.composer.specs.declared.few.Few.{Few}
 use Rattle.composer.specs.declared.lead.line.Place.{Place}
 use Rattle.composer.specs.declared.lead.line.Line.{Line}
 
@@ -23,11 +25,8 @@ place_of bar b i = record { bar = bar; i = i; last = is_last_of bar i b.n; stron
 abbrev pub opens_line_of : ℕ → ℕ → Bool
 opens_line_of bar heads = eqb bar 0 && ltb heads 2
 
-abbrev pub head_of : ℕ → List ℕ → ℕ → ℕ → List ℕ
-head_of bar head heads note = cond (opens_line_of bar heads) (set head heads note) head
-
-abbrev pub heads_of : ℕ → ℕ → ℕ
-heads_of bar heads = cond (opens_line_of bar heads) (heads + 1) heads
+abbrev pub head_of : ℕ → Few ℕ 2 → ℕ → Few ℕ 2
+head_of bar head note = cond (opens_line_of bar head.n) (one_more head note) head
 
 -- the line after one note more
 unfoldable pub carried_of : Line → ℕ → ℕ → NoiseStream → Line
@@ -35,6 +34,5 @@ carried_of l bar note s = record {
   stream = s;
   from = l.prev;
   prev = note;
-  head = head_of bar l.head l.heads note;
-  heads = heads_of bar l.heads;
+  head = head_of bar l.head note;
 }

@@ -77,7 +77,7 @@ start_of style chord pool =
     nearest_of (tones_in chord.notes pool no_class (max style.lo (style.hi - 12)) style.hi) ((style.lo + style.hi) / 2 + 2)
 
 abbrev pub open_line_of : ℕ → NoiseStream → Line
-open_line_of first s = record { stream = s; from = first; prev = first; head = 0 ∷ 0 ∷ []; heads = 0 }
+open_line_of first s = record { stream = s; from = first; prev = first; head = record { at = 0 ∷ 0 ∷ []; n = 0 } }
 
 -- nothing sung yet
 unfoldable pub nothing_sung : ℕ → NoiseStream → Sung

@@ -56,7 +56,7 @@ passing_note_of s pool g prev =
 
 -- `first` is the melody's first note
 unfoldable pub pitch_of : Role → NoiseStream → List Bool → Ground → Line → Place → ℕ → Draw ℕ
-pitch_of Quote s pool g l p first = pitched (get_or l.head p.i 0) s
+pitch_of Quote s pool g l p first = pitched (get_or l.head.at p.i 0) s
 pitch_of Close s pool g l p first = pitched (close_note_of g first) s
 pitch_of Peak s pool g l p first = peak_note_of s g l.prev
 pitch_of Resolve s pool g l p first = pitched (resolve_note_of pool g l.from l.prev) s

@@ -48,7 +48,7 @@ chance_role_of s =
 
 unfoldable pub role_of : Line → Place → Draw Role
 role_of l p =
-    cond (quotes_of p l.heads) (chosen_of Quote l.stream)
+    cond (quotes_of p l.head.n) (chosen_of Quote l.stream)
     (cond p.last (chosen_of Close l.stream)
     (cond (peaks_of p) (chosen_of Peak l.stream)
     (cond (leapt_of l.from l.prev) (chosen_of Resolve l.stream)

@@ -35,10 +35,10 @@ pub record Sound (pool : List Bool) (g : Ground) : Type 0 where
 pub record Fit (pool : List Bool) (lo hi : ℕ) (l : Line) (opening : ℕ) : Type 0 where
   pub low : lo ≤ l.prev
   pub high : l.prev ≤ hi
-  pub size : length l.head ≡ 2
-  pub heads : l.heads ≤ 2
+  pub size : length l.head.at ≡ 2
+  pub heads : l.head.n ≤ 2
   pub prev : T (fits_of pool lo hi l.prev)
-  pub head : (i : ℕ) → i < l.heads → T (fits_of pool lo hi (get_or l.head i 0))
+  pub head : (i : ℕ) → i < l.head.n → T (fits_of pool lo hi (get_or l.head.at i 0))
   pub first : T (fits_of pool lo hi opening)
 
 -- where note i is a quote, there is a note to quote

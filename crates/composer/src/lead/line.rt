@@ -2,6 +2,7 @@
 ghost use Rattle.std.specs.Prelude.{◌≡◌, ◌≤◌, ◌<◌};
 ghost use Rattle.composer.specs.Lead.Line.{is_strong_of, is_last_of, place_of, opens_line_of, carried_of};
 
+use crate::few::Few;
 use crate::lead::beats::Beats;
 use streams::float::fract;
 use streams::stream::NoiseStream;
@@ -20,14 +21,13 @@ pub struct Place {
     pub strong: bool,
 }
 
-// The last two notes, `from` and `prev`, the first `heads` notes of bar 0, and the stream.
+// The last two notes, `from` and `prev`, the first notes of bar 0, and the stream.
 #[derive(Clone, Copy)]
 pub struct Line {
     pub stream: NoiseStream,
     pub from: u8,
     pub prev: u8,
-    pub head: [u8; 2],
-    pub heads: usize,
+    pub head: Few<u8, 2>,
 }
 
 // On a beat, or pushed a sixteenth ahead of one.
@@ -68,26 +68,18 @@ fn opens_line(bar: u8, heads: usize) -> bool
 
 // The line after one note more.
 pub(crate) fn carried(l: Line, bar: u8, note: u8, s: NoiseStream) -> Line
-    requires { l.heads ≤ 2 }
+    requires { l.head.n ≤ 2 }
     ensures { result ≡ carried_of l bar note s }
 {
-    let heads = l.heads;
     let mut head = l.head;
-    if opens_line(bar, heads) {
-        head[heads] = note;
-        return Line {
-            stream: s,
-            from: l.prev,
-            prev: note,
-            head,
-            heads: heads + 1,
-        };
+    if opens_line(bar, head.n) {
+        head.at[head.n] = note;
+        head.n += 1;
     }
     Line {
         stream: s,
         from: l.prev,
         prev: note,
         head,
-        heads,
     }
 }

@@ -111,8 +111,7 @@ fn open_line(first: u8, s: NoiseStream) -> Line
         stream: s,
         from: first,
         prev: first,
-        head: [0, 0],
-        heads: 0,
+        head: Few { at: [0, 0], n: 0 },
     }
 }
 

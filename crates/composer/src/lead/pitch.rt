@@ -102,12 +102,12 @@ pub(crate) fn pitch_of(
 ) -> Draw<u8>
     requires sound { Sound pool.now g }
     requires fit { Fit pool.now g.lo g.hi l first }
-    requires quotable { Quotable role p.i l.heads }
+    requires quotable { Quotable role p.i l.head.n }
     ensures { result ≡ pitch_of role s pool.now g l p first }
 {
     match role {
         Role::Quote => Draw {
-            value: l.head[p.i],
+            value: l.head.at[p.i],
             stream: s,
         },
         Role::Close => Draw {

@@ -93,7 +93,7 @@ pub(crate) fn role_of(l: Line, p: Place) -> Draw<Role>
     ensures { result ≡ role_of l p }
 {
     let s = l.stream;
-    if quotes(p, l.heads) {
+    if quotes(p, l.head.n) {
         return chosen(Role::Quote, s);
     }
     if p.last {

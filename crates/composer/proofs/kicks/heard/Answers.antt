@@ -1,5 +1,5 @@
 -- The kicks among the hits so far stand before the padding. Assumes nothing.
-use Rattle.std.proofs.Common.{◌≡◌, refl, sym, ◌∙◌, ◌+◌, [], ◌∷◌, ◌++◌, get_or, take, arith, add-one, length-append, length-take}
+use Rattle.std.proofs.Common.{◌≡◌, refl, sym, ◌∙◌, ◌+◌, [], ◌∷◌, ◌++◌, get_or, take, arith, add-one, length-append}
 use Rattle.std.proofs.lemmas.List.{append-nil}
 use Rattle.laws.specs.Lists.{pad}
 use Rattle.laws.proofs.Lists.{pad_push}
@@ -16,12 +16,11 @@ loop-hit-init c = record { few = omega arith; count = refl; times = refl }
 pub loop-hit-preserved : goal.loop-hit-preserved
 loop-hit-preserved c =
     let l = c.loop-hit in
-    let hits = take c.args.n c.args.hits in
+    let hits = c.args.hits.now in
     let hit = get_or hits l.hit-index past_hit in
     let times = times_of (take l.hit-index hits) in
     let is = sym (kick_test hit.kind) ∙ sym c.eq.ensures in
     let more = times_more hits l.hit-index past_hit (omega arith) in
-    let most = length-take c.args.n c.args.hits in
     elim c.if-eq.branch [
       | then-eq w ↦
           let grown : times_of (take (l.hit-index + 1) hits) ≡ times ++ (hit.at ∷ []) = rw (add-one, more, is, w.if-eq.true) in

@@ -8,6 +8,6 @@ use Rattle.composer.proofs.kicks.heard.Given as goal
 abbrev pub invariant-loop-hit : goal.invariant-loop-hit
 invariant-loop-hit l = record {
   few : l.count ≤ l.hit-index;
-  count : l.count ≡ length (times_of (take l.hit-index l.hit-items));
-  times : l.at ≡ pad zero32 98 (times_of (take l.hit-index l.hit-items));
+  count : l.count ≡ length (times_of (take l.hit-index l.hits));
+  times : l.at ≡ pad zero32 98 (times_of (take l.hit-index l.hits));
 }
