@@ -61,6 +61,7 @@ fn notes_sum(notes: &[Note]) -> u64
     w
 }
 
+// The same of hits: a trait with the sum of an event and its bound would be longer than the loop.
 fn hits_sum(hits: &[Hit]) -> u64
     requires few { length hits.now ≤ 128 }
     requires plain { All PlainHit hits.now }

@@ -44,6 +44,7 @@ fn notes_zero(notes: &[Note], n: usize) -> bool
     notes.iter().skip(n).all(note_zero)
 }
 
+// The same of hits: a trait for these two would be longer than the one line.
 fn hits_zero(hits: &[Hit], n: usize) -> bool
     ensures { result ≡ list_all hit_zero (drop n hits.now) }
 {

@@ -115,7 +115,7 @@ pub(crate) fn notes_pass(formed: &Formed, k: usize, leads: bool) -> bool
     (0..fields.notes(k)).all(|i| note_passes(bytes, at + width * i, edition, leads))
 }
 
-// Whether the hits of field k are in range.
+// The same of hits, of which nothing hangs on the edition.
 pub(crate) fn hits_pass(formed: &Formed, k: usize) -> bool
     requires { k < 10 }
     ensures { let b = formed.now.fields.bytes.now in result ≡ hits_pass b (body_at b k) (hit_count_in b k) }
@@ -146,7 +146,8 @@ pub(crate) fn notes_at<const N: usize>(formed: &Formed, k: usize, leads: bool) -
     out
 }
 
-// The same of hits.
+// The same of hits. One function for all lanes, over a closure that reads an event, needed a bound of N besides and was
+// no shorter.
 #[tactic(auto, using(laws::proofs::Lists::pad_start, crate::proofs::LoopLaws::padded_more))]
 pub(crate) fn hits_at<const N: usize>(formed: &Formed, k: usize) -> [Hit; N]
     requires field { k < 10 }

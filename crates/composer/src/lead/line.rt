@@ -21,7 +21,8 @@ pub struct Place {
     pub strong: bool,
 }
 
-// The last two notes, `from` and `prev`, the first notes of bar 0, and the stream.
+// The last two notes, `from` and `prev`, the first notes of bar 0, and the stream. No `Draw`: the stream is one of four
+// things that the line carries on.
 #[derive(Clone, Copy)]
 pub struct Line {
     pub stream: NoiseStream,
