@@ -56,7 +56,7 @@ fn composed_of(style: Style, seed: u64) -> Composed
     let scale = h.scale;
     let voice = vd.value;
     let score = Score {
-        style: style,
+        style,
         bpm: td.value,
         bar_chords: bars,
         lead: ld.value,
@@ -75,9 +75,9 @@ fn composed_of(style: Style, seed: u64) -> Composed
         voice: vd.stream.counter,
     };
     Composed {
-        score: score,
-        scale: scale,
-        counters: counters,
+        score,
+        scale,
+        counters,
     }
 }
 

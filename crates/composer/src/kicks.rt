@@ -25,7 +25,7 @@ fn heard(hits: &[Hit]) -> KickTimes
             count += 1;
         }
     }
-    KickTimes { at: at, n: count }
+    KickTimes { at, n: count }
 }
 
 // The times of the kicks among the hits in use, ascending: equal ones kept, -0 before 0, a NaN last. A

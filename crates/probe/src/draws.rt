@@ -35,10 +35,7 @@ fn drawn(kind: Kind, s: NoiseStream) -> Draw<u64>
 fn fill(kind: Kind, seed: u64, counter: u64, out: &mut [u64]) -> u64
     ensures { Ran kind (stream_at seed counter) out.old out.new result }
 {
-    let mut s = NoiseStream {
-        seed: seed,
-        counter: counter,
-    };
+    let mut s = NoiseStream { seed, counter };
     for place in out.iter_mut() {
         let d = drawn(kind, s);
         *place = d.value;

@@ -138,11 +138,11 @@ fn made(seed: u64, intro: u8, phrases: u8, outro: u8, dip: bool, bars: u8) -> Fo
     let plays = f.plays;
     Form {
         intro: end_by(intro),
-        phrases: phrases,
+        phrases,
         outro: outro_by(outro),
-        dip: dip,
-        plays: plays,
-        bars: bars,
+        dip,
+        plays,
+        bars,
     }
 }
 

@@ -95,8 +95,8 @@ fn hit_by(words: &[u64], i: usize) -> Hit
     Hit {
         bar: 0,
         spare: 0,
-        at: at,
-        kind: kind,
+        at,
+        kind,
         gain: 0.0,
     }
 }

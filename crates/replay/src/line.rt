@@ -43,8 +43,8 @@ pub fn parsed(s: &[u8]) -> Line {
     let answer = word(s, 36);
     Line {
         what: byte(s, 0),
-        a: a,
-        b: b,
-        answer: answer,
+        a,
+        b,
+        answer,
     }
 }

@@ -130,11 +130,7 @@ pub extern "C" fn seqochanu_lesson(
 ) -> i64
     ensures { LessonCalled style start count (wishes_of key tempo voice) seed.old seed.new result }
 {
-    let wishes = Wishes {
-        key: key,
-        tempo: tempo,
-        voice: voice,
-    };
+    let wishes = Wishes { key, tempo, voice };
     let answer = lesson(style, start, count, wishes);
     match answer {
         Ok(found) => {

@@ -56,8 +56,8 @@ pub(crate) fn phrase_of(d: Decisions, cut: Cut, p: u8) -> Phrase
     let low = takes_bass(t, d.low_with_break);
     let heard = cut_heard(d, cut, p);
     Phrase {
-        breaks: breaks,
-        low: low,
+        breaks,
+        low,
         thin: p == d.phrases / 2,
         whole: d.whole,
         cuts: heard,

@@ -185,17 +185,17 @@ fn decisions_by(u: [f32; 29]) -> Decisions
     let closing = closing_of(u[27]);
     let share = long_outro_p(closing);
     Decisions {
-        opening: opening,
+        opening,
         long_intro: u[1] < LONG_INTRO_P,
         phrases: 4 + more,
-        thinning: thinning,
+        thinning,
         whole: u[4] < WHOLE_THINNING_P,
         low_with_break: u[5] < LOW_WITH_BREAK_P,
         cutting: u[6] < CUTTING_P,
-        cuts: cuts,
+        cuts,
         bass_drop: u[25] < BASS_DROP_P,
         dip: u[26] < DIP_P,
-        closing: closing,
+        closing,
         long_outro: u[28] < share,
     }
 }

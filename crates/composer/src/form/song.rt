@@ -105,12 +105,12 @@ fn form_of(d: Decisions) -> Form
     let cuts = d.cuts;
     let cut = cut_heard(d, cuts[1], 1);
     Form {
-        intro: intro,
+        intro,
         phrases: d.phrases,
-        outro: outro,
+        outro,
         dip: d.dip & !cut,
-        plays: plays,
-        bars: bars,
+        plays,
+        bars,
     }
 }
 

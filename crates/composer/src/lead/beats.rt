@@ -28,7 +28,7 @@ pub(crate) fn remove(b: Beats, k: usize) -> Beats
     let mut at = [0.0f32; 7];
     at[..k].copy_from_slice(&b.at[..k]);
     at[k..n].copy_from_slice(&b.at[k + 1..b.n]);
-    Beats { at: at, n: n }
+    Beats { at, n }
 }
 
 // d, or -d where d is below 0. Not `abs`, which makes 0 of -0 too: the definition leaves it.
@@ -53,7 +53,7 @@ fn thinned(a: &[f32], n: usize) -> Beats
 {
     let mut at = [0.0f32; 7];
     if n == 0 {
-        return Beats { at: at, n: 0 };
+        return Beats { at, n: 0 };
     }
     at[0] = a[0];
     let mut m: usize = 1;
@@ -64,10 +64,10 @@ fn thinned(a: &[f32], n: usize) -> Beats
         m += far as usize;
     }
     if m == 7 {
-        return Beats { at: at, n: m };
+        return Beats { at, n: m };
     }
     at[m] = 0.0;
-    Beats { at: at, n: m }
+    Beats { at, n: m }
 }
 
 // The first n of a in order, each a gap from the last.

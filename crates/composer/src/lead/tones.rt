@@ -39,7 +39,7 @@ fn cleared(at: [u8; 20], n: usize) -> Tones
     if n < 20 {
         out[n] = 0;
     }
-    Tones { at: out, n: n }
+    Tones { at: out, n }
 }
 
 // The scale's notes from lo to hi.
@@ -81,10 +81,7 @@ pub(crate) fn chord_tones(notes: Tones, chord: Chord) -> ChordTones
     }
     let tones = cleared(at, n);
     let rootless = cleared(others, m);
-    ChordTones {
-        tones: tones,
-        rootless: rootless,
-    }
+    ChordTones { tones, rootless }
 }
 
 // The tones without the root, where there are any.
