@@ -14,7 +14,7 @@ pub mod song;
 pub mod spans;
 
 // An intro, a body of whole phrases that starts on loop bar 0, and an outro. The first `bars` entries
-// of `plays` are the song's bars.
+// of `plays` are the song's bars: document 01 has them as an array of 64 beside their count.
 #[derive(Clone, Copy, Debug, PartialEq, Eq)]
 pub struct Form {
     pub intro: End,

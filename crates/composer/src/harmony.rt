@@ -7,7 +7,7 @@ use crate::style::{Style, major_share};
 use streams::draw::{chance, pick};
 use streams::stream::{Draw, NoiseStream};
 
-// The pitch classes that the lead sings: the first n. A `Few` would say `at` where a sheet's field says pitch classes.
+// The pitch classes that the lead sings: the first n. No `Few`: the definitions name `pcs`.
 #[derive(Clone, Copy, Debug, PartialEq, Eq)]
 pub struct Scale {
     pub pcs: [u8; 6],

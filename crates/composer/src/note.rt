@@ -18,7 +18,7 @@ pub enum NoteRole {
 }
 
 impl NoteRole {
-    // Its number on a sheet.
+    // Its number on a sheet: the cast by a name that is public.
     pub fn number(self) -> u8
         ensures { result ≡ role_number_of self }
     {
@@ -69,7 +69,7 @@ pub enum DrumKind {
 }
 
 impl DrumKind {
-    // Its number on a sheet.
+    // Its number on a sheet: the cast by a name that is public.
     pub fn number(self) -> u8
         ensures { result ≡ kind_number_of self }
     {

@@ -14,7 +14,7 @@ pub enum Style {
 }
 
 impl Style {
-    // Its number on a sheet.
+    // Its number on a sheet: the cast by a name that is public.
     pub fn number(self) -> u8
         ensures { result ≡ style_number_of self }
     {
@@ -70,7 +70,8 @@ pub struct LeadStyle {
     pub dur: f32,
 }
 
-// The chance that an eighth strikes: drawn once a song, or the same in every song with no draw.
+// The chance that an eighth strikes: drawn once a song, or the same in every song with no draw. Document 01 names its
+// form.
 #[derive(Clone, Copy)]
 pub enum Density {
     Drawn(Spread),

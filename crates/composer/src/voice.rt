@@ -25,7 +25,7 @@ const SLEEP_VOICES: [LeadVoice; 2] = [LeadVoice::Vibraphone, LeadVoice::EpVel];
 const SLEEP_WEIGHTS: [u16; 2] = [35, 65];
 
 impl LeadVoice {
-    // Its number on a sheet.
+    // Its number on a sheet: the cast by a name that is public.
     pub fn number(self) -> u8
         ensures { result ≡ voice_number_of self }
     {

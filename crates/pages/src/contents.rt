@@ -39,7 +39,7 @@ fn put_eight(buf: &mut [u8], at: usize, chords: &[[u8; 4]; 8]) -> usize
     o
 }
 
-// 0x04: melody scale. The array's length is known where it is a parameter by itself, and not in a struct.
+// 0x04: melody scale. As a method its proof didn't close: the array's length isn't found behind the struct.
 fn put_scale(buf: &mut [u8], at: usize, scale: Scale) -> usize
     requires n_bound { scale.n ≤ 6 }
     requires room { at + (3 + scale.n) ≤ length buf.old }

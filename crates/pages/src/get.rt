@@ -41,7 +41,7 @@ pub fn u32_at(bytes: &[u8], at: usize) -> u32
     ])
 }
 
-// A number of eight bytes.
+// A number of eight bytes, by its halves: eight bytes one by one would be no plainer.
 pub fn u64_at(bytes: &[u8], at: usize) -> u64
     requires { at + 8 ≤ length bytes.now }
     ensures { result ≡ be64_at bytes.now at }

@@ -23,7 +23,7 @@ pub enum Lane {
     Bass = 8,
 }
 
-// The events of a lane from `from` on, before `to`.
+// The events of a lane from `from` on, before `to`. A `Range` can't be copied.
 #[derive(Clone, Copy, Debug, PartialEq, Eq)]
 pub struct Run {
     pub from: usize,

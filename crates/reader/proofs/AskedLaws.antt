@@ -92,8 +92,9 @@ passes_read bytes t = rw (t.formed, t.coded, t.within)
 pub read_song : (bytes : List ℕ) (v : Song) → read_of bytes ≡ Ok v → v ≡ song_in bytes
 read_song bytes v e = let z = sym e ∙ passes_read bytes (passes bytes v e) in cc
 
+read_within : (bytes : List ℕ) (v : Song) → read_of bytes ≡ Ok v → within v ≡ true
+read_within bytes v e = ap within (read_song bytes v e) ∙ (passes bytes v e).within
+
 pub read_valid : (bytes : List ℕ) (v : Song) → read_of bytes ≡ Ok v → valid v ≡ true
 unfolding valid
-read_valid bytes v e =
-    let s = read_song bytes v e in
-    rw (ap within s ∙ (passes bytes v e).within) (ap cleared s ∙ cleared_read bytes)
+read_valid bytes v e = rw (read_within bytes v e) (ap cleared (read_song bytes v e) ∙ cleared_read bytes)

@@ -115,7 +115,7 @@ pub(crate) fn notes_pass(formed: &Formed, k: usize, leads: bool) -> bool
     (0..fields.notes(k)).all(|i| note_passes(bytes, at + width * i, edition, leads))
 }
 
-// The same of hits, of which nothing hangs on the edition.
+// The same of hits: a trait for `note_passes` and `hit_passes` would be longer than this line.
 pub(crate) fn hits_pass(formed: &Formed, k: usize) -> bool
     requires { k < 10 }
     ensures { let b = formed.now.fields.bytes.now in result ≡ hits_pass b (body_at b k) (hit_count_in b k) }

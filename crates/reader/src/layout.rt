@@ -57,7 +57,8 @@ impl<'a> Fields<'a> {
         }
     }
 
-    // Where the body of field k begins, counted from 0: a type for a number below ten would be no plainer than the clause.
+    // Where the body of field k begins, counted from 0: a type for a number below ten would be no plainer than the
+    // clause.
     pub(crate) fn body(&self, k: usize) -> usize
         requires { k < 10 }
         ensures { result ≡ body_at self.now.bytes.now k }

@@ -50,7 +50,7 @@ fn notes_within(notes: &[Note], n: usize, edition: Edition, leads: bool) -> bool
     n <= notes.len() && notes[..n].iter().all(|x| note_within(x, edition, leads))
 }
 
-// The same of hits, of which nothing hangs on the edition: a trait would have to hand it through.
+// The same of hits: a trait for the two would be longer than this line.
 #[tactic(auto, using(crate::proofs::LibraryLaws::hits_within_is))]
 fn hits_within(hits: &[Hit], n: usize) -> bool
     ensures { result ≡ hits_within hits.now (length hits.now) n }

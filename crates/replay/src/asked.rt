@@ -27,13 +27,13 @@ fn stage_seed(seed: u64, stage: u64) -> u64 {
 
 fn word(seed: u64, n: u64) -> u64 {
     let mut out = [0u64; 1];
-    probe_words(seed, std::num::wrapping_sub_u64(n, 1), &mut out);
+    probe_words(seed, n.wrapping_sub(1), &mut out);
     out[0]
 }
 
 fn unit(seed: u64, n: u64) -> u64 {
     let mut out = [0u64; 1];
-    probe_units(seed, std::num::wrapping_sub_u64(n, 1), &mut out);
+    probe_units(seed, n.wrapping_sub(1), &mut out);
     out[0]
 }
 
@@ -85,7 +85,7 @@ fn kicks_fold(style: u8, seed: u64) -> u64 {
     fold(&out)
 }
 
-// A fold of all words of the song, of the song without its drums, or of its kicks.
+// A fold of all words of the song, of the song without its drums, or of its kicks: `what` stands in a recorded line.
 fn folded(style: u8, seed: u64, what: u64) -> u64 {
     match what {
         0 => song_fold(style, seed),

@@ -116,8 +116,8 @@ pub extern "C" fn seqochanu_to_edition_2(sheet: &[u8], buf: &mut [u8]) -> i64
 
 // Sets `seed` to some seed among the `count` seeds from `start` on whose song in style 0 or 1 has the key (0 to 11, 12
 // for any), the tempo (1 to 255, 0 for any) and the lead voice (0 to 3, 255 for any), and answers 0. Any other style is
-// -1, then a count outside 1 to 65,536 or a span past the largest seed -10, then a wish outside these codes -11, and -12
-// just where no seed of the span has all three; with these, `seed` stays.
+// -1, then a count outside 1 to 65,536 or a span past the largest seed -10, then a wish outside these codes -11, and
+// -12 just where no seed of the span has all three; with these, `seed` stays.
 #[unsafe(no_mangle)]
 pub extern "C" fn seqochanu_lesson(
     style: u8,

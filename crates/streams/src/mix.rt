@@ -9,7 +9,7 @@ const SPLITMIX64_M1: u64 = 0xbf58_476d_1ce4_e5b9;
 
 const SPLITMIX64_M2: u64 = 0x94d0_49bb_1331_11eb;
 
-// The product of a and b modulo 2^64.
+// The product of a and b modulo 2^64. Document 01 asks for this function.
 pub fn wrapping_mul_u64(a: u64, b: u64) -> u64
     ensures { result ≡ a * b % 2 ^ 64 }
 {

@@ -1,4 +1,5 @@
-// A stream of draws: its seed, and how many draws it has made.
+// A stream of draws: its seed, and how many draws it has made. It is taken by value and handed on, as document 01 has
+// it.
 ghost use Rattle.std.specs.Prelude.{◌≡◌};
 ghost use Rattle.streams.specs.Stream.{new_of, after, next_u64_of, unit_of};
 

@@ -84,7 +84,8 @@ fn kick_beat(k: Kick, number: u8) -> f32
     if number % 2 == 0 { k.even } else { k.odd }
 }
 
-// How many kicks a bar has: two, and a ghost kick that picks up out of a statement.
+// How many kicks a bar has: two, and a ghost kick that picks up out of a statement. The definitions number a bar's kicks,
+// so that they are not gathered in an array.
 pub(crate) fn kick_count(g: Groove, bar: Bar) -> u8
     ensures { result ≡ kick_count_of g bar }
 {

@@ -5,7 +5,7 @@ ghost use Rattle.composer.specs.Form.Body.{takes_bass, cut_at, cut_heard, phrase
 use crate::form::decisions::{Cut, Decisions, Thinning};
 use crate::form::plays::Plays;
 
-// What the bars of one phrase lose.
+// What the bars of one phrase lose. Of a cut that isn't heard bars and bass are known too, so it is no Option.
 #[derive(Clone, Copy)]
 pub struct Phrase {
     // what the thinning mutes: the drums, the bass

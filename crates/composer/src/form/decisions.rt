@@ -37,7 +37,8 @@ pub enum Thinning {
     Steady,
 }
 
-// A phrase's cut: whether it is drawn, the bars it takes, and whether the bass leaves with the beat.
+// A phrase's cut: whether it is drawn, the bars it takes, and whether the bass leaves with the beat. All three are drawn
+// whether it is on or not, so it is no Option.
 #[derive(Clone, Copy, Debug, PartialEq, Eq)]
 pub struct Cut {
     pub on: bool,

@@ -58,7 +58,7 @@ fn thinned(a: &[f32], n: usize) -> Beats
     at[0] = a[0];
     let mut m: usize = 1;
     for &x in &a[1..n] {
-        // Each is written, and the next over it unless it is kept.
+        // Each is written, and the next over it unless it is kept: no branch hangs on a draw.
         let far = !near(x, at[m - 1]);
         at[m] = x;
         m += far as usize;

@@ -43,7 +43,8 @@ fn candidate(n: u8, d: u8, side: u8) -> u8
     }
 }
 
-// The nearest note to n that fits, lower before higher; lo where none is within half an octave.
+// The nearest note to n that fits, lower before higher; lo where none is within half an octave. Two loops that are left
+// by a label, as document 01 has it.
 fn snapped(pool: &[bool], lo: u8, hi: u8, n: u8) -> u8
     requires { (6 ≤ n) × (n < 250) }
     ensures { result ≡ snapped_of pool.now lo hi n }

@@ -50,7 +50,7 @@ pub(crate) fn scale_notes(pool: &[bool], lo: u8, hi: u8) -> Tones
     let mut at = [0u8; 20];
     let mut n: usize = 0;
     for x in lo..=hi {
-        // Each is written, and the next over it unless it is kept.
+        // Each is written, and the next over it unless it is kept: no branch hangs on a draw.
         let keep = has(pool, x % OCTAVE);
         at[n] = x;
         n += keep as usize;
@@ -98,7 +98,7 @@ fn rank(target: u8, x: u8) -> u16
     x.abs_diff(target) as u16 * 256 + x as u16
 }
 
-// The nearest note to the target; ties low.
+// The nearest note to the target; ties low. By a fold composing took about a hundredth longer.
 fn nearest(notes: &[u8], target: u8) -> u8
     requires { 0 < length notes.now }
     ensures { result ≡ nearest_of notes.now target }
