@@ -12,7 +12,7 @@ use Rattle.composer.specs.declared.note.Hit.{Hit}
 use Rattle.composer.specs.declared.score.Score.{Score}
 use Rattle.composer.specs.declared.refusal.Refusal.{Refusal}
 use Rattle.probe.specs.Forms.{outcome_number_of}
-use Rattle.probe.specs.Scores.{told_of}
+use Rattle.probe.specs.Scores.{song_or_none}
 
 -- the refusal, 0 for none, how many times there are, then 98 places for them
 unfoldable pub times_word_of : ℕ → KickTimes → ℕ → ℕ
@@ -45,7 +45,7 @@ hit_by words i = record {
 -- a song's score with these hits
 unfoldable pub score_by : List ℕ → Score
 score_by words =
-    let s = (told_of (compose_of 0 0)).score in
+    let s = (song_or_none (compose_of 0 0)).score in
     record {
       style = s.style;
       bpm = s.bpm;

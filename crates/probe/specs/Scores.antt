@@ -19,7 +19,7 @@ use Rattle.composer.specs.declared.score.Counters.{Counters}
 use Rattle.composer.specs.declared.score.Score.{Score}
 use Rattle.probe.specs.Forms.{outcome_number_of}
 
--- what is told of a song that is refused: zero throughout
+-- in place of a song that is refused: zero throughout
 abbrev pub no_song : Composed
 no_song = record {
   score = no_score;
@@ -27,8 +27,8 @@ no_song = record {
   counters = record { harmony = 0; tempo = 0; lead = 0; keys = 0; drums = 0; bass = 0; voice = 0 };
 }
 
-abbrev pub told_of : Result Composed Refusal → Composed
-told_of song = result_unwrap_or song no_song
+abbrev pub song_or_none : Result Composed Refusal → Composed
+song_or_none song = result_unwrap_or song no_song
 
 -- ---- parts
 -- the refusal's number, 0 for none, the style, the tempo, the lead's voice, and how many events each lane has
@@ -76,7 +76,7 @@ song_word_of refusal c k = cond (ltb k 62) (head_word_of refusal c k) (lane_word
 
 -- of what composing answers
 abbrev pub word_of : Result Composed Refusal → ℕ → ℕ
-word_of song k = song_word_of (outcome_number_of song) (told_of song) k
+word_of song k = song_word_of (outcome_number_of song) (song_or_none song) k
 
 -- the song without its drums
 abbrev pub unbeaten_song : Result Composed Refusal → Result Composed Refusal

@@ -6,7 +6,7 @@ ghost use Rattle.std.specs.Float.Ieee.{of_bits};
 ghost use Rattle.laws.specs.Lists.{list_to};
 ghost use Rattle.composer.specs.Compose.{compose_of};
 ghost use Rattle.composer.specs.Kicks.{kicks_of};
-ghost use Rattle.probe.specs.Scores.{told_of};
+ghost use Rattle.probe.specs.Scores.{song_or_none};
 ghost use Rattle.probe.specs.Kicks.{times_word_of, kicks_word_of, kind_by, hit_by, score_by};
 
 use crate::forms::outcome_number;
@@ -123,7 +123,7 @@ fn score_by(words: &[u64]) -> Score
 // Word i of the kicks of the seed's score in place i of `out`, for each of its places. An unknown style has the score
 // of zeros, and so no kicks.
 pub fn probe_kicks(style: u8, seed: u64, out: &mut [u64])
-    ensures { out.new ≡ list_to (kicks_word_of (kicks_of (told_of (compose_of style seed)).score)) (length out.old) }
+    ensures { out.new ≡ list_to (kicks_word_of (kicks_of (song_or_none (compose_of style seed)).score)) (length out.old) }
 {
     let song = compose(style, seed).unwrap_or(no_song());
     fill(kicks(song.score), out);

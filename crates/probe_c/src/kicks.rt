@@ -4,14 +4,14 @@ ghost use Rattle.std.specs.Prelude.{◌≡◌, length};
 ghost use Rattle.laws.specs.Lists.{list_to};
 ghost use Rattle.composer.specs.Compose.{compose_of};
 ghost use Rattle.composer.specs.Kicks.{kicks_of};
-ghost use Rattle.probe.specs.Scores.{told_of};
+ghost use Rattle.probe.specs.Scores.{song_or_none};
 ghost use Rattle.probe.specs.Kicks.{kicks_word_of, score_by};
 
 // Word i of the kicks of the seed's score in place i of `out`, for each of its places. An unknown style has the score
 // of zeros, and so no kicks.
 #[unsafe(no_mangle)]
 pub extern "C" fn probe_kicks(style: u8, seed: u64, out: &mut [u64])
-    ensures { out.new ≡ list_to (kicks_word_of (kicks_of (told_of (compose_of style seed)).score)) (length out.old) }
+    ensures { out.new ≡ list_to (kicks_word_of (kicks_of (song_or_none (compose_of style seed)).score)) (length out.old) }
 {
     probe::kicks::probe_kicks(style, seed, out);
 }
