@@ -10,12 +10,13 @@ pub struct Few<T, const N: usize> {
 }
 
 impl<T, const N: usize> Few<T, N> {
-    // The entries in use.
+    // The entries in use: all of them where n is more than there are.
+    #[tactic(auto, using(std::proofs::lemmas::List::take_min))]
     pub fn used(&self) -> &[T]
-        requires { self.now.n ≤ N }
         ensures value { result.now ≡ take self.now.n self.now.at }
-        ensures size { length result.now ≡ self.now.n }
+        ensures size { self.now.n ≤ N → length result.now ≡ self.now.n }
     {
-        &self.at[..self.n]
+        let all: &[T] = &self.at;
+        &all[..self.n.min(all.len())]
     }
 }

@@ -34,7 +34,7 @@ returns c =
     let e : l.i ≡ length xs = omega arith in
     record {
       value =
-          ap (held_of l.at l.stream) (sym (e ∙ c.used-beat-items.ensures.size)) ∙ l.invariant ∙ ap (λ i. foldl vary_of (empty_from c.args.s) (take i xs)) e
+          ap (held_of l.at l.stream) (sym (e ∙ c.used-beat-items.ensures.size c.requires)) ∙ l.invariant ∙ ap (λ i. foldl vary_of (empty_from c.args.s) (take i xs)) e
           ∙ ap (foldl vary_of (empty_from c.args.s)) (take-length xs ∙ c.used-beat-items.ensures.value);
       n_bound = omega arith;
     }

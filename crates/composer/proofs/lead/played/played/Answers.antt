@@ -14,7 +14,7 @@ pub loop-i-preserved : goal.loop-i-preserved
 loop-i-preserved c =
     let l = c.loop-i in
     let m = c.args.m in
-    let all : length c.used-x-items.result.now ≡ m.notes.n = c.used-x-items.ensures.size in
+    let all : length c.used-x-items.result.now ≡ m.notes.n = c.used-x-items.ensures.size c.requires in
     let x : get_or c.used-x-items.result.now l.i past_lead ≡ get_or m.notes.at l.i past_lead = rw c.used-x-items.ensures.value (get_or-take m.notes.n m.notes.at l.i past_lead (omega (arith, all))) in
     lane_more m c.args.beat_s c.args.dur m.line.stream l.notes l.stream l.i _ c.play-p.result l.invariant x c.play-p.ensures
 
@@ -22,5 +22,5 @@ pub returns : goal.returns
 returns c =
     let l = c.loop-i in
     let m = c.args.m in
-    let all : length c.used-x-items.result.now ≡ m.notes.n = c.used-x-items.ensures.size in
+    let all : length c.used-x-items.result.now ≡ m.notes.n = c.used-x-items.ensures.size c.requires in
     played_all c.args.m c.args.beat_s c.args.dur l.notes l.stream l.i l.invariant (omega (arith, all))
