@@ -2,11 +2,12 @@
 ghost use Rattle.std.specs.Prelude.{◌≡◌, ◌+◌, ◌*◌, ◌<◌, ◌≤◌, length};
 ghost use Rattle.laws.specs.Writes.{Wrote};
 ghost use Rattle.composer.specs.Form.{loop_bar_of};
+ghost use Rattle.composer.specs.Promise.{LanesPromise};
 ghost use Rattle.pages.specs.Answer.{Writes, written_of, buffer_of};
 ghost use Rattle.pages.specs.Hits.{page_hits, hits_field};
 ghost use Rattle.pages.specs.Inner.Hits.{run_hits, HitsWithin};
 ghost use Rattle.pages.specs.Lane.{run_size, Held};
-ghost use Rattle.pages.specs.Page.{Chorded, chord_size, chord_field, runs_in, RunsWithin, runs_size, runs_bytes, page_bytes, page_of, page_asked};
+ghost use Rattle.pages.specs.Page.{Chorded, chord_size, chord_field, page_size, runs_in, RunsWithin, runs_size, page_bytes, page_of, page_asked};
 ghost use Rattle.pages.specs.Writable.{Writable, Paged};
 
 use crate::edition::{Edition, put_edition};
@@ -56,9 +57,11 @@ struct Page<'a> {
     runs: Runs,
     hits: HeardRuns,
     ghost writable: { Writable score.now },
+    ghost lanes: { LanesPromise score.now },
     ghost chorded: { Chorded score.now },
     ghost bar_bound: { bar < 8 },
     ghost runs_within: { RunsWithin score.now runs },
+    ghost runs_drawn: { runs ≡ runs_in score.now plays bar },
     ghost hits_within: { HitsWithin score.now hits },
     ghost count_bound: { hits.count ≤ 196 },
 }
@@ -102,7 +105,7 @@ impl<'a> Page<'a> {
     // The whole, from the start of a buffer that is long enough.
     fn put(&self, buf: &mut [u8]) -> usize
         requires { runs_size self.now.plays.pad self.now.runs self.now.hits.count ≤ length buf.old }
-        ensures { Wrote buf.old buf.new 0 result (runs_size self.now.plays.pad self.now.runs self.now.hits.count) (runs_bytes self.now.score.now self.now.plays self.now.bar self.now.runs (run_hits self.now.score.now self.now.hits)) }
+        ensures { Wrote buf.old buf.new 0 result (page_size self.now.score.now self.now.plays self.now.bar self.now.hits.count) (page_bytes self.now.score.now self.now.plays self.now.bar (run_hits self.now.score.now self.now.hits)) }
     {
         let s = self.score;
         let z = put_edition(buf, 0, Edition::Two);
