@@ -15,16 +15,6 @@ pub fn put_u8(buf: &mut [u8], at: usize, x: u8) -> usize
     at + 1
 }
 
-// Bytes as they stand.
-pub fn put_bytes(buf: &mut [u8], at: usize, bytes: &[u8]) -> usize
-    requires { at + length bytes.now ≤ length buf.old }
-    ensures { Wrote buf.old buf.new at result (length bytes.now) bytes.now }
-{
-    let end = at + bytes.len();
-    buf[at..end].copy_from_slice(bytes);
-    end
-}
-
 // A number of two bytes.
 pub fn put_u16(buf: &mut [u8], at: usize, x: u16) -> usize
     requires { at + 2 ≤ length buf.old }
@@ -66,4 +56,16 @@ pub fn put_head(buf: &mut [u8], at: usize, tag: u8, size: usize) -> usize
 {
     let a = put_u8(buf, at, tag);
     put_u16(buf, a, size as u16)
+}
+
+// Bytes as they stand, one by one: the library's copy of a slice would ask for C's `memmove`, which nothing else needs.
+pub fn put_bytes(buf: &mut [u8], at: usize, bytes: &[u8]) -> usize
+    requires { at + length bytes.now ≤ length buf.old }
+    ensures { Wrote buf.old buf.new at result (length bytes.now) bytes.now }
+{
+    let mut o = at;
+    for b in bytes {
+        o = put_u8(buf, o, *b);
+    }
+    o
 }

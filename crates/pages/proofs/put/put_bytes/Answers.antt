@@ -1,15 +1,15 @@
--- The bytes stand in place of the part that was lent. Assumes nothing.
-use mathlib.Core.Path.{◌≡◌, refl}
-use Prim.Native.Nat.{◌+◌, ◌-◌}
+-- A turn writes one byte more. Assumes nothing.
+use mathlib.Core.Path.{refl, sym}
+use native.Mathlib.Numerals.{add-one}
 use native.Mathlib.Omega.{arith}
-use lib.ListN.{length}
-use lib.Seq.{drop-drop}
-use Rattle.laws.specs.Lists.{splice}
+use lib.Seq.{take-suc}
+use Rattle.laws.proofs.Writes.{wrote_none, wrote_then, wrote_as}
 use Rattle.pages.proofs.put.put_bytes.Goals as goal
 
-pub returns : goal.returns
-unfolding splice
-returns c =
-    let n = length c.args.bytes.now in
-    let e : c.args.at + n - c.args.at ≡ n = omega arith in
-    record { next = refl; size = refl; fits = c.requires; bytes = rw (c.copy_from_slice.ensures.after, e, drop-drop n c.args.at c.args.buf.now) refl }
+pub loop-b-init : goal.loop-b-init
+loop-b-init c = wrote_none c.args.buf.now c.args.at (omega arith)
+
+pub loop-b-preserved : goal.loop-b-preserved
+loop-b-preserved c =
+    let l = c.loop-b in
+    wrote_as refl (rw add-one (sym (take-suc c.args.bytes.now l.b-index 0 (omega arith)))) (wrote_then l.invariant c.put_u8-o.ensures)
