@@ -13,9 +13,9 @@ use pages::get::{byte_at, u16_at};
 pub struct Fields<'a> {
     pub bytes: &'a [u8],
     pub edition: Edition,
-    bodies: [usize; 10],
-    sizes: [usize; 10],
-    end: usize,
+    pub bodies: [usize; 10],
+    pub sizes: [usize; 10],
+    pub end: usize,
     pub ghost edition_is: { edition ≡ edition_in bytes.now },
     pub ghost bodies_are: { (k : ℕ) → k < 10 → get_or bodies k 0 ≡ body_at bytes.now k },
     pub ghost sizes_are: { (k : ℕ) → k < 10 → get_or sizes k 0 ≡ size_at bytes.now k },
