@@ -138,7 +138,7 @@ held_most wanted sheet v =
 
 pub convert_most : (wanted : Edition) (sheet : List ℕ) → length (bytes_of (convert_asked wanted sheet)) ≤ sheet_most wanted
 unfolding convert_asked
-convert_most wanted sheet = asked_most (read_of sheet) (held_asked wanted sheet) (sheet_most wanted) (held_most wanted sheet)
+convert_most wanted sheet = asked_most (read_of sheet) (held_asked wanted sheet) (sheet_most wanted) (λ v e. held_most wanted sheet v)
 
 -- ---- the song that is composed for the song v
 module _ (v : Song) {number : ℕ} {song : Result Composed Refusal} (numbered : number ≡ style_number_of v.score.style) (composed : song ≡ compose_of number v.seed) where

@@ -71,8 +71,8 @@ beyond (Writes bytes) b = go (ltb (length b) (length bytes))
 beyond (Declines r) b = refl
 
 -- a refusal writes nothing
-pub asked_most : {A : Type 0} (o : Result A Refusal) (a : A → Asked) (m : ℕ) → ((x : A) → length (bytes_of (a x)) ≤ m) → length (bytes_of (asked_by o a)) ≤ m
-asked_most (Ok x) a m h = h x
+pub asked_most : {A : Type 0} (o : Result A Refusal) (a : A → Asked) (m : ℕ) → ((x : A) → o ≡ Ok x → length (bytes_of (a x)) ≤ m) → length (bytes_of (asked_by o a)) ≤ m
+asked_most (Ok x) a m h = h x refl
 asked_most (Err r) a m h = omega arith
 
 -- what was refused before is what the call answers

@@ -37,7 +37,7 @@ use Rattle.pages.specs.declared.hits.HeardRuns.{HeardRuns}
 use Rattle.pages.specs.declared.hits.Part.{Part}
 use Rattle.pages.specs.declared.lane.Lane.{Lane}
 use Rattle.pages.proofs.BytesLaws.{length_field}
-use Rattle.pages.proofs.LaneLaws.{hits_wide, filter_shown, shown_most}
+use Rattle.pages.proofs.LaneLaws.{hits_wide, filter_shown, run_in_within, shown_most}
 
 -- ---- hits that pass a test
 filter_same : (p : Hit → Bool) (hs : List Hit) → filter p hs ≡ filter_of p hs
@@ -145,6 +145,14 @@ module _ (s : Score) (promise : LanesPromise s) where
 
   pub runs_count : (f : Form) (b : ℕ) → length (hits_in s (own_part b) (run_of (drum_run_of s f b) s.hits.at)) + length (hits_in s Part.Early (run_of (drum_run_of s f (b + 1)) s.hits.at)) ≡ length (page_hits s f b)
   runs_count f b = sym (length-append (hits_in s (own_part b) (run_of (drum_run_of s f b) s.hits.at)) (hits_in s Part.Early (run_of (drum_run_of s f (b + 1)) s.hits.at))) ∙ ap length (runs_hits f b)
+
+  -- both runs of a page stand in their lane, and the count is theirs
+  pub hits_within_lem : (f : Form) (b : ℕ) → HitsWithin s (heard_runs_of s f b)
+  hits_within_lem f b = record {
+    own = run_in_within s promise Lane.Hits (plays_drums f b) (loop_bar_of f b);
+    next = run_in_within s promise Lane.Hits (plays_drums f (b + 1)) (loop_bar_of f (b + 1));
+    count = sym (ap length (runs_hits f b));
+  }
 
 -- ---- at most
 module _ (s : Score) (each : BarsPromise s) (early : EarlyPromise s) where

@@ -18,7 +18,7 @@ use lib.Seq.{length-take-le, get_or-take, take_all}
 use Rattle.laws.specs.Lists.{joined, filter_of}
 use Rattle.laws.specs.Sorts.{count, All, Sorted}
 use Rattle.laws.specs.Writes.{Wrote}
-use Rattle.composer.specs.Note.{note_bar, hit_bar}
+use Rattle.composer.specs.Note.{past_note, note_bar, hit_bar}
 use Rattle.composer.specs.Promise.{LanesPromise}
 use Rattle.composer.specs.declared.note.Hit.{Hit}
 use Rattle.composer.specs.declared.note.Note.{Note}
@@ -35,7 +35,7 @@ use Rattle.pages.specs.declared.lane.Lane.{Lane}
 use Rattle.laws.proofs.Counts.{count_most, count_filter, count_map, all_kept}
 use Rattle.laws.proofs.Joins.{length_joined, joined_snoc}
 use Rattle.laws.proofs.Keyed.{by, count_below, run_of_key, rises_sorted, sorted_map}
-use Rattle.laws.proofs.Lists.{get_d_any, length_map_take, map_take_on}
+use Rattle.laws.proofs.Lists.{get_d_any, length_map_take, map_take_at, map_take_on}
 use Rattle.laws.proofs.Sorts.{all_every, all_map}
 use Rattle.laws.proofs.Writes.{wrote_then, wrote_as}
 use Rattle.pages.proofs.WritableLaws.{sized}
@@ -173,6 +173,10 @@ module _ (s : Score) (p : SizedLanes s) where
   lane_wrote edition lane w = rw (whole_run (events_of edition s lane) (count_in s lane) (length_events edition lane), sub-zero (count_in s lane)) at w
 
 module _ (s : Score) (p : LanesPromise s) where
+  -- the lead's bars are those of its notes
+  pub lead_bar_lem : (i : ℕ) → i < s.lead.n → get_or (bars_of s Lane.Lead) i 0 ≡ (get_or s.lead.at i past_note).bar
+  lead_bar_lem i h = map_take_at note_bar s.lead.at s.lead.n i past_note 0 h (omega (arith, p.lead.few, p.lead.size))
+
   events_sorted : (edition : Edition) (lane : Lane) → Sorted (by bar_in) (events_of edition s lane)
   events_sorted edition Lane.Lead = laid_sorted note_bar (note_bytes edition) (note_bar_lem edition) s.lead.at s.lead.n p.lead
   events_sorted edition Lane.Keys = laid_sorted note_bar (note_bytes edition) (note_bar_lem edition) s.keys.at s.keys.n p.keys
@@ -190,6 +194,12 @@ module _ (s : Score) (p : LanesPromise s) where
   run_within lane bar =
       let bs = bars_of s lane in
       (omega (arith, count_below itself bar bs), omega (arith, count_most (earlier (bar + 1)) bs, length_bars s (sized s p) lane))
+
+  -- so does that of a layer that is silent
+  pub run_in_within : (lane : Lane) (on : Bool) (bar : ℕ) → InLane s lane (run_in s lane on bar)
+  unfolding run_in
+  run_in_within lane true bar = run_within lane bar
+  run_in_within lane false bar = (omega arith, omega arith)
 
   pub run_length : (edition : Edition) (lane : Lane) (on : Bool) (bar : ℕ) → (run_in s lane on bar).to - (run_in s lane on bar).from ≡ length (shown on (drawn_for bar (events_of edition s lane)))
   unfolding run_in
