@@ -7,7 +7,7 @@ use Rattle.composer.specs.Form.{loop_bar_of}
 use Rattle.pages.specs.Hits.{page_hits}
 use Rattle.pages.specs.Page.{page_bytes}
 use Rattle.pages.proofs.AnswerLaws.{refused, served}
-use Rattle.pages.proofs.PageLaws.{page_length, size_is, bytes_is}
+use Rattle.pages.proofs.PageLaws.{page_length, size_is, page_is}
 use Rattle.pages.proofs.paged.PagedSong.page_into.Goals as goal
 
 pub returns-then-buf-size : goal.returns-then-buf-size
@@ -24,6 +24,6 @@ returns-then-buf-size c =
 pub returns : goal.returns
 returns c =
     let song = c.args.self.now in
-    let bytes = bytes_is song.score.now song.paged.lanes c.args.p song.form.now c.args.bar c.loop_bar-looped.ensures.value c.runs_in-runs.ensures.value c.heard_runs-hits.ensures.value in
+    let bytes = page_is song.score.now song.paged.lanes c.args.p song.form.now c.args.bar c.loop_bar-looped.ensures.value c.heard_runs-hits.ensures.value in
     let all = served (wrote_as refl bytes c.put.ensures) in
     record { value = all.0; buf_after = all.1 }
