@@ -195,7 +195,7 @@ module _ (s : Score) (p : LanesPromise s) where
       let bs = bars_of s lane in
       (omega (arith, count_below itself bar bs), omega (arith, count_most (earlier (bar + 1)) bs, length_bars s (sized s p) lane))
 
-  -- so does that of a layer that is silent
+  -- a layer's run stands in its lane, where the layer sounds and where it is silent
   pub run_in_within : (lane : Lane) (on : Bool) (bar : ℕ) → InLane s lane (run_in s lane on bar)
   unfolding run_in
   run_in_within lane true bar = run_within lane bar

@@ -103,7 +103,7 @@ module _ (s : Score) (promise : LanesPromise s) where
         run_drawn s promise Edition.Two Lane.Bass p.bass bar,
       )
 
-  -- the same of runs that are known to be the bar's
+  -- of runs that are the bar's
   module _ (p : Plays) (bar : ℕ) {runs : Runs} (r : runs ≡ runs_in s p bar) where
     pub drawn_size : (hits : ℕ) → runs_size p.pad runs hits ≡ page_size s p bar hits
     drawn_size hits = rw r (runs_size_lem p bar hits)
@@ -111,18 +111,13 @@ module _ (s : Score) (promise : LanesPromise s) where
     pub drawn_bytes : (hits : List Hit) → runs_bytes s p bar runs hits ≡ page_bytes s p bar hits
     drawn_bytes hits = rw r (runs_bytes_lem p bar hits)
 
-  -- the hits that are heard in song bar b are the page's
-  pub page_is : (p : Plays) (f : Form) (b : ℕ) {bar : ℕ} {hits : HeardRuns} → bar ≡ loop_bar_of f b → hits ≡ heard_runs_of s f b
-      → page_bytes s p bar (run_hits s hits) ≡ page_bytes s p (loop_bar_of f b) (page_hits s f b)
-  page_is p f b e h = rw (e, h, runs_hits s promise f b) refl
-
   -- the runs of song bar b have in all the page's size, and its bytes
   module _ (p : Plays) (f : Form) (b : ℕ) {bar : ℕ} {runs : Runs} {hits : HeardRuns} (e : bar ≡ loop_bar_of f b) (r : runs ≡ runs_in s p bar) (h : hits ≡ heard_runs_of s f b) where
     pub size_is : {n : ℕ} → n ≡ runs_size p.pad runs hits.count → n ≡ page_size s p (loop_bar_of f b) (length (page_hits s f b))
     size_is size = size ∙ rw (r, e, h) (runs_size_lem p (loop_bar_of f b) (length (page_hits s f b)))
 
     pub bytes_is : runs_bytes s p bar runs (run_hits s hits) ≡ page_bytes s p (loop_bar_of f b) (page_hits s f b)
-    bytes_is = drawn_bytes p bar r (run_hits s hits) ∙ page_is p f b e h
+    bytes_is = rw (r, e, h, runs_hits s promise f b) (runs_bytes_lem p (loop_bar_of f b) (page_hits s f b))
 
 -- ---- at most
 chord_most : (on : Bool) → chord_size on ≤ 4

@@ -2,13 +2,12 @@
 ghost use Rattle.std.specs.Prelude.{◌≡◌, ◌+◌, ◌*◌, ◌<◌, ◌≤◌, length};
 ghost use Rattle.laws.specs.Writes.{Wrote};
 ghost use Rattle.composer.specs.Form.{loop_bar_of};
-ghost use Rattle.composer.specs.Promise.{LanesPromise};
 ghost use Rattle.pages.specs.Answer.{Writes, written_of, buffer_of};
 ghost use Rattle.pages.specs.Hits.{page_hits, hits_field};
 ghost use Rattle.pages.specs.Inner.Hits.{run_hits, HitsWithin};
 ghost use Rattle.pages.specs.Lane.{run_size, Held};
 ghost use Rattle.pages.specs.Page.{Chorded, chord_size, chord_field, page_size, runs_in, RunsWithin, runs_size, page_bytes, page_of, page_asked};
-ghost use Rattle.pages.specs.Writable.{Writable, Paged};
+ghost use Rattle.pages.specs.Writable.{Paged};
 
 use crate::edition::{Edition, put_edition};
 use crate::hits::{HeardRuns, Part, put_part};
@@ -56,8 +55,7 @@ struct Page<'a> {
     bar: u8,
     runs: Runs,
     hits: HeardRuns,
-    ghost writable: { Writable score.now },
-    ghost lanes: { LanesPromise score.now },
+    ghost paged: { Paged score.now },
     ghost chorded: { Chorded score.now },
     ghost bar_bound: { bar < 8 },
     ghost runs_within: { RunsWithin score.now runs },

@@ -58,7 +58,7 @@ pub fn put_head(buf: &mut [u8], at: usize, tag: u8, size: usize) -> usize
     put_u16(buf, a, size as u16)
 }
 
-// Bytes as they stand, one by one: the library's copy of a slice would ask for C's `memmove`, which nothing else needs.
+// Bytes as they stand, one by one: with the library's copy of a slice here the library for C asked for `memmove`.
 pub fn put_bytes(buf: &mut [u8], at: usize, bytes: &[u8]) -> usize
     requires { at + length bytes.now ≤ length buf.old }
     ensures { Wrote buf.old buf.new at result (length bytes.now) bytes.now }

@@ -1,17 +1,17 @@
 -- No value's sheet is longer than a sheet of its edition can be, and what is read and written again has at most 5,456
 -- bytes. Assumes nothing.
-use mathlib.Core.Path.{◌≡◌, refl}
+use mathlib.Core.Path.{◌≡◌}
 use mathlib.Core.Bool.{true}
 use mathlib.Core.List.{List}
 use Prim.Native.Nat.{ℕ, ◌≤◌}
 use native.Mathlib.Omega.{arith}
 use lib.ListN.{length}
-use Rattle.std.proofs.Common.{Result, Ok, Err}
-use Rattle.composer.specs.declared.refusal.Refusal.{Refusal}
-use Rattle.pages.specs.Answer.{bytes_of, asked_by}
+use Rattle.std.proofs.Common.{Ok}
+use Rattle.pages.specs.Answer.{bytes_of}
 use Rattle.pages.specs.Edition.{sheet_most}
 use Rattle.pages.specs.Writable.{SizedLanes}
 use Rattle.pages.specs.declared.edition.Edition.{Edition}
+use Rattle.pages.proofs.AnswerLaws.{asked_most}
 use Rattle.pages.proofs.SheetLaws.{chords_length, sheet_length, counts_most, edition_most}
 use Rattle.reader.specs.Read.{read_of, write_asked, reread_asked}
 use Rattle.reader.specs.Song.{song_in, sheet_of}
@@ -46,10 +46,6 @@ read_most bytes v e =
     let p = tested_value (song_in bytes) (shaped_read bytes (passes bytes v e).formed) (rw s at ok) in
     rw (asked_valid v ok, s) (omega (arith, most (song_in bytes) p, edition_most (song_in bytes).edition))
 
-by_read : (o : Result Song Refusal) → ((v : Song) → o ≡ Ok v → length (bytes_of (write_asked v)) ≤ sheet_most Edition.Two) → length (bytes_of (asked_by o write_asked)) ≤ sheet_most Edition.Two
-by_read (Ok v) h = h v refl
-by_read (Err r) h = omega arith
-
 pub reread_most : (bytes : List ℕ) → length (bytes_of (reread_asked bytes)) ≤ sheet_most Edition.Two
 unfolding reread_asked
-reread_most bytes = by_read (read_of bytes) (read_most bytes)
+reread_most bytes = asked_most (read_of bytes) write_asked (sheet_most Edition.Two) (read_most bytes)

@@ -12,6 +12,6 @@ unfolding runs_bytes
 returns c =
     let page = c.args.self.now in
     let s = page.score.now in
-    wrote_as (drawn_size s page.lanes page.plays page.bar page.runs_drawn page.hits.count) (drawn_bytes s page.lanes page.plays page.bar page.runs_drawn (run_hits s page.hits))
+    wrote_as (drawn_size s page.paged.lanes page.plays page.bar page.runs_drawn page.hits.count) (drawn_bytes s page.paged.lanes page.plays page.bar page.runs_drawn (run_hits s page.hits))
     (wrote_as (omega arith) refl
     (wrote_then c.put_edition-z.ensures (wrote_then c.put_chord-a.ensures (wrote_then c.put_run-b.ensures (wrote_then c.put_run-c.ensures (wrote_then c.put_hits-d.ensures c.put_run.ensures))))))

@@ -1,13 +1,14 @@
 -- The size by the runs is this very page's length, which decides between refusal 2 and the page. Assumes nothing.
-use mathlib.Core.Path.{refl}
+use mathlib.Core.Path.{refl, sym, ◌∙◌}
 use native.Mathlib.Omega.{arith}
 use borrow.Author.Tests.{ltb-true}
 use Rattle.laws.proofs.Writes.{wrote_as}
 use Rattle.composer.specs.Form.{loop_bar_of}
 use Rattle.pages.specs.Hits.{page_hits}
+use Rattle.pages.specs.Inner.Hits.{run_hits}
 use Rattle.pages.specs.Page.{page_bytes}
 use Rattle.pages.proofs.AnswerLaws.{refused, served}
-use Rattle.pages.proofs.PageLaws.{page_length, size_is, page_is}
+use Rattle.pages.proofs.PageLaws.{page_length, drawn_bytes, size_is, bytes_is}
 use Rattle.pages.proofs.paged.PagedSong.page_into.Goals as goal
 
 pub returns-then-buf-size : goal.returns-then-buf-size
@@ -24,6 +25,10 @@ returns-then-buf-size c =
 pub returns : goal.returns
 returns c =
     let song = c.args.self.now in
-    let bytes = page_is song.score.now song.paged.lanes c.args.p song.form.now c.args.bar c.loop_bar-looped.ensures.value c.heard_runs-hits.ensures.value in
-    let all = served (wrote_as refl bytes c.put.ensures) in
+    let s = song.score.now in
+    let lanes = song.paged.lanes in
+    let runs = c.runs_in-runs.ensures.value in
+    let drawn = drawn_bytes s lanes c.args.p c.loop_bar-looped.result runs (run_hits s c.heard_runs-hits.result) in
+    let bytes = bytes_is s lanes c.args.p song.form.now c.args.bar c.loop_bar-looped.ensures.value runs c.heard_runs-hits.ensures.value in
+    let all = served (wrote_as refl (sym drawn ∙ bytes) c.put.ensures) in
     record { value = all.0; buf_after = all.1 }
